@@ -1,0 +1,4 @@
+pub mod Places
+pub mod Judgements
+pub mod Runs
+pub mod LineForms

@@ -1,0 +1,9 @@
+pub mod Nodes
+pub mod Lines
+pub mod Parsing
+pub mod Places
+pub mod Lawful
+pub mod Faults
+pub mod Shapes
+pub mod Seen
+pub mod Judging

@@ -1,0 +1,14 @@
+// Missions: lawful behaviour trees in preorder, read from texts and written to them.
+pub mod breach;
+pub mod flaw;
+mod line;
+pub mod line_fault;
+pub mod mission;
+pub mod node;
+pub mod outline;
+mod outline_nodes;
+pub mod page_fault;
+mod ranges;
+mod raw;
+mod tree;
+pub mod tree_fault;

@@ -1,0 +1,5 @@
+pub mod Options
+pub mod Numerals
+pub mod Readings
+pub mod Cuts
+pub mod Ranges

@@ -1,0 +1,3 @@
+pub mod Numeral
+pub mod Fields
+pub mod Seen

@@ -2,3 +2,7 @@ pub mod Places
 pub mod Judgements
 pub mod Runs
 pub mod LineForms
+pub mod NumberLines
+pub mod NodeLines
+pub mod OneText
+pub mod TextFaults

@@ -5,5 +5,7 @@ pub mod Places
 pub mod Lawful
 pub mod Faults
 pub mod Shapes
+pub mod Texts
+pub mod Reading
 pub mod Seen
 pub mod Judging

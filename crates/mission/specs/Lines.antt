@@ -133,8 +133,13 @@ abbrev pub all-ranged : List Node → Bool
 all-ranged [] = true
 all-ranged (n ∷ ns) = ranged (raw n) && all-ranged ns
 
--- the judgement of a line: it is the line of a node in range, it is of no form, or a number of it is out of range
+-- what is wrong with a line that is to be of one of the forms, its numbers in range: it is of none of them, or it is out
+-- of range
+abbrev pub Bad : {X : Type 0} → (X → List ℕ) → (X → Bool) → List ℕ → Flaw → Type 0
+Bad {X} form good xs Form = (x : X) → xs ≡ form x → ⊥
+Bad {X} form good xs Range = (x : X) × (xs ≡ form x) × (good x ≡ false)
+
+-- the judgement of a node line: the node whose line it is, or what is wrong with it
 abbrev pub Judged-line : List ℕ → Result Node Flaw → Type 0
 Judged-line xs (Ok n) = (xs ≡ line (raw n)) × (ranged (raw n) ≡ true)
-Judged-line xs (Err Form) = (w : RawNode) → xs ≡ line w → ⊥
-Judged-line xs (Err Range) = (w : RawNode) × (xs ≡ line w) × (ranged w ≡ false)
+Judged-line xs (Err f) = Bad line ranged xs f

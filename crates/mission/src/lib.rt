@@ -10,5 +10,6 @@ mod outline_nodes;
 pub mod page_fault;
 mod ranges;
 mod raw;
+mod reading;
 mod tree;
 pub mod tree_fault;

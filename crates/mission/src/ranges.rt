@@ -25,11 +25,11 @@ fn byte(z: i32, low: u8, high: u8) -> Result<u8, Flaw>
     if low as i32 <= z && z <= high as i32 { Ok(z as u8) } else { Err(Flaw::Range) }
 }
 
-// A number of times: 1 to 60,000.
-fn times_of(z: i32) -> Result<u16, Flaw>
-    ensures { λ r. ⌜ Cases r (λ n. (pos n ≡ z) × (within (pos 1) (pos 60000) z ≡ true)) (λ e. (e ≡ OutOfRange) × (within (pos 1) (pos 60000) z ≡ false)) ⌝ }
+// The number, where it lies from `low` to `high`.
+pub(crate) fn in_span(z: i32, low: u16, high: u16) -> Result<u16, Flaw>
+    ensures { λ r. ⌜ Cases r (λ n. (pos n ≡ z) × (within (pos low) (pos high) z ≡ true)) (λ e. (e ≡ OutOfRange) × (within (pos low) (pos high) z ≡ false)) ⌝ }
 {
-    if 1 <= z && z <= 60_000 { Ok(z as u16) } else { Err(Flaw::Range) }
+    if low as i32 <= z && z <= high as i32 { Ok(z as u16) } else { Err(Flaw::Range) }
 }
 
 fn device_of(device: Option<i32>) -> Result<Option<u8>, Flaw>
@@ -104,7 +104,7 @@ pub(crate) fn node_of(raw: RawNode) -> Result<Node, Flaw>
         }
         RawNode::Not => Ok(Node::Not),
         RawNode::Loop { kind, times } => {
-            let times = times_of(times)?;
+            let times = in_span(times, 1, 60_000)?;
             Ok(Node::Loop { kind, times })
         }
         RawNode::Skill { skill, device, target } => skill_node(skill, device, target),

@@ -16,9 +16,8 @@ use crate::breach::Breach;
 use crate::node::Node;
 use crate::node::Target;
 use crate::outline::Outline;
+use crate::reading::NODES_BEGIN;
 use crate::tree_fault::TreeFault;
-
-const NODES_BEGIN: u32 = 5;
 
 // Is the key of the target not below its declared number?
 fn target_beyond(outline: &Outline, target: Target) -> bool

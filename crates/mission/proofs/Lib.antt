@@ -6,3 +6,4 @@ pub mod NumberLines
 pub mod NodeLines
 pub mod OneText
 pub mod TextFaults
+pub mod Accepting

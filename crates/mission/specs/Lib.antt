@@ -7,5 +7,6 @@ pub mod Faults
 pub mod Shapes
 pub mod Texts
 pub mod Reading
+pub mod Missions
 pub mod Seen
 pub mod Judging

@@ -97,3 +97,14 @@ fn read_nodes(start: &[u8], counts: u8, abilities: u8, len: usize) -> Result<Out
     }
     Ok(Outline { counts, abilities, nodes, len })
 }
+
+// The outline that the text writes, or its first flaw.
+pub(crate) fn read_outline(text: &[u8]) -> Result<Outline, LineFault>
+    ensures { λ r. ⌜ Cases r (λ o. now (text .entry) ≡ text-of (shape o)) (λ f. Caught (now (text .entry)) f) ⌝ }
+{
+    let rest = read_head(text)?;
+    let (counts, rest) = read_number(rest, 2, b"counts", 0, 32)?;
+    let (abilities, rest) = read_number(rest, 3, b"abilities", 0, 32)?;
+    let (len, rest) = read_number(rest, 4, b"nodes", 1, 256)?;
+    read_nodes(rest, counts as u8, abilities as u8, len as usize)
+}

@@ -7,3 +7,4 @@ pub mod NodeLines
 pub mod OneText
 pub mod TextFaults
 pub mod Accepting
+pub mod Laying

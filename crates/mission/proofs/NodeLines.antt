@@ -15,6 +15,11 @@ ended-push [] l t = append-assoc l (10 ∷ []) t
 ended-push (k ∷ ls) l t =
     append-assoc k (10 ∷ ended (ls ++ (l ∷ []))) t ∙ ap (λ xs. k ++ (10 ∷ xs)) (ended-push ls l t) ∙ sym (append-assoc k (10 ∷ ended ls) (l ++ (10 ∷ t)))
 
+pub ended-append : (ks ls : List (List ℕ)) (t : List ℕ) → ended ks ++ (ended ls ++ t) ≡ ended (ks ++ ls) ++ t
+ended-append [] ls t = refl
+ended-append (k ∷ ks) ls t =
+    append-assoc k (10 ∷ ended ks) (ended ls ++ t) ∙ ap (λ xs. k ++ (10 ∷ xs)) (ended-append ks ls t) ∙ sym (append-assoc k (10 ∷ ended (ks ++ ls)) t)
+
 ranged-push : (ns : List Node) (n : Node) → all-ranged ns ≡ true → ranged (raw n) ≡ true → all-ranged (ns ++ (n ∷ [])) ≡ true
 ranged-push [] n h g = and-from (ranged (raw n)) true g refl
 ranged-push (k ∷ ns) n h g = let p = and-parts (ranged (raw k)) (all-ranged ns) h in and-from _ _ (p .0) (ranged-push ns n (p .1) g)

@@ -28,7 +28,7 @@ use Rattle.mission.specs.Lawful.{Shape}
 use Rattle.mission.specs.Lines.{number-field, line, raw, ranged, all-ranged, Bad}
 use Rattle.mission.specs.Texts.{ended, head-line, counts-line, abilities-line, nodes-line, node-line, lines, text, declared, sized, In-range, skip, first-of, nth, Wrong, Node-flawed, Flawed, Sooner, First-flaw}
 use Rattle.mission.specs.Reading.{Taken, Stopped, Caught}
-use Rattle.mission.proofs.NodeLines.{ended-push}
+use Rattle.mission.proofs.NodeLines.{ended-push, ended-append}
 use Rattle.mission.proofs.OneText.{Clean, clean-lines, clean-nodes, free-number, one-number, same-range}
 
 -- the lines of a text that begins with them, and what follows them
@@ -68,11 +68,6 @@ begin-more t rest after ls l b f e =
 clean-append : (ks ls : List (List ℕ)) → Clean ks → Clean ls → Clean (ks ++ ls)
 clean-append [] ls c d = d
 clean-append (k ∷ ks) ls c d = (c .0, clean-append ks ls (c .1) d)
-
-ended-append : (ks ls : List (List ℕ)) (t : List ℕ) → ended ks ++ (ended ls ++ t) ≡ ended (ks ++ ls) ++ t
-ended-append [] ls t = refl
-ended-append (k ∷ ks) ls t =
-    append-assoc k (10 ∷ ended ks) (ended ls ++ t) ∙ ap (λ xs. k ++ (10 ∷ xs)) (ended-append ks ls t) ∙ sym (append-assoc k (10 ∷ ended (ks ++ ls)) t)
 
 pub begin-all : (t rest after : List ℕ) (ks ls : List (List ℕ)) → Begins t ks rest → Clean ls → rest ≡ ended ls ++ after → Begins t (ks ++ ls) after
 begin-all t rest after ks ls b c e =

@@ -8,5 +8,7 @@ pub mod Shapes
 pub mod Texts
 pub mod Reading
 pub mod Missions
+pub mod Pages
+pub mod Pieces
 pub mod Seen
 pub mod Judging

@@ -8,6 +8,8 @@ use crate::parts::AbilityThreshold;
 use crate::parts::CountThreshold;
 
 impl CountThreshold {
+    pub const ZERO: CountThreshold = CountThreshold { least: 0 };
+
     // The threshold of this number, or a refusal where it is out of range.
     pub fn new(least: i32) -> Result<CountThreshold, EntryFault>
         ensures { λ r. ⌜ Cases r (λ t. t .least ≡ least) (λ e. (e ≡ OutOfRange) × (count-threshold least ≡ false)) ⌝ }

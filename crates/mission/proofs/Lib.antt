@@ -8,3 +8,6 @@ pub mod OneText
 pub mod TextFaults
 pub mod Accepting
 pub mod Laying
+pub mod Growing
+pub mod Beginning
+pub mod SkillLeaves

@@ -8,6 +8,8 @@ pub mod Shapes
 pub mod Texts
 pub mod Reading
 pub mod Missions
+pub mod Trees
+pub mod Counting
 pub mod Pages
 pub mod Pieces
 pub mod Seen

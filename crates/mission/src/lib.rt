@@ -4,6 +4,7 @@ pub mod flaw;
 mod line;
 pub mod line_fault;
 pub mod mission;
+mod mission_parts;
 mod mission_text;
 pub mod node;
 pub mod outline;

@@ -1,0 +1,3 @@
+pub mod Commands
+pub mod Words
+pub mod Verdicts

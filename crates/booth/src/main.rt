@@ -28,7 +28,11 @@ enum Ending {
 fn check(rt: &LibcRuntime, text: &[u8]) -> Result<Ending, AnyError> {
     let heap = rt.alloc();
     match judge(heap, text)? {
-        Verdict::Accepted { text, nodes, skills } => {
+        Verdict::Accepted {
+            text,
+            nodes,
+            skills,
+        } => {
             rt.stdout().write_all(text.as_slice())?;
             println!(rt, "accepted nodes={nodes} skills={skills}")?;
             Ok(Ending::Done)

@@ -10,7 +10,11 @@ use std::alloc::Global;
 // or its first fault.
 #[derive(Drop)]
 pub enum Verdict {
-    Accepted { text: Vec<u8>, nodes: usize, skills: usize },
+    Accepted {
+        text: Vec<u8>,
+        nodes: usize,
+        skills: usize,
+    },
     Refused(TreeFault),
 }
 
@@ -27,5 +31,9 @@ pub fn judge(heap: Global, text: &[u8]) -> Result<Verdict, AllocError>
         return unreachable();
     };
     page.truncate(len);
-    Ok(Verdict::Accepted { text: page, nodes: mission.nodes().len(), skills: mission.skills() })
+    Ok(Verdict::Accepted {
+        text: page,
+        nodes: mission.nodes().len(),
+        skills: mission.skills(),
+    })
 }

@@ -16,29 +16,29 @@ le-once a b p q = λ i. record { le = T-prop (leZ a b) (p .le) (q .le) i }
 pub same-weight : (v w : Weight) → v .value ≡ w .value → v ≡ w
 same-weight v w e =
     λ i.
-      record {
-        value = e i;
-        least = isProp→PathP (λ j. 1 ≤ e j) (λ j. le-prop) (v .least) (w .least) i;
-        most = isProp→PathP (λ j. e j ≤ 100) (λ j. le-prop) (v .most) (w .most) i;
-      }
+    record {
+      value = e i;
+      least = isProp→PathP (λ j. 1 ≤ e j) (λ j. le-prop) (v .least) (w .least) i;
+      most = isProp→PathP (λ j. e j ≤ 100) (λ j. le-prop) (v .most) (w .most) i;
+    }
 
 pub same-count-threshold : (s t : CountThreshold) → s .least ≡ t .least → s ≡ t
 same-count-threshold s t e =
     λ i.
-      record {
-        least = e i;
-        low = isProp→PathP (λ j. negsuc 999999 ≤ℤ e j) (λ j. le-once (negsuc 999999) (e j)) (s .low) (t .low) i;
-        high = isProp→PathP (λ j. e j ≤ℤ pos 1000000) (λ j. le-once (e j) (pos 1000000)) (s .high) (t .high) i;
-      }
+    record {
+      least = e i;
+      low = isProp→PathP (λ j. negsuc 999999 ≤ℤ e j) (λ j. le-once (negsuc 999999) (e j)) (s .low) (t .low) i;
+      high = isProp→PathP (λ j. e j ≤ℤ pos 1000000) (λ j. le-once (e j) (pos 1000000)) (s .high) (t .high) i;
+    }
 
 pub same-ability-threshold : (s t : AbilityThreshold) → s .least ≡ t .least → s .over ≡ t .over → s ≡ t
 same-ability-threshold s t e f =
     λ i.
-      record {
-        least = e i;
-        over = f i;
-        low = isProp→PathP (λ j. negsuc 9999 ≤ℤ e j) (λ j. le-once (negsuc 9999) (e j)) (s .low) (t .low) i;
-        high = isProp→PathP (λ j. e j ≤ℤ pos 10000) (λ j. le-once (e j) (pos 10000)) (s .high) (t .high) i;
-        above = isProp→PathP (λ j. 1 ≤ f j) (λ j. le-prop) (s .above) (t .above) i;
-        within = isProp→PathP (λ j. f j ≤ 100) (λ j. le-prop) (s .within) (t .within) i;
-      }
+    record {
+      least = e i;
+      over = f i;
+      low = isProp→PathP (λ j. negsuc 9999 ≤ℤ e j) (λ j. le-once (negsuc 9999) (e j)) (s .low) (t .low) i;
+      high = isProp→PathP (λ j. e j ≤ℤ pos 10000) (λ j. le-once (e j) (pos 10000)) (s .high) (t .high) i;
+      above = isProp→PathP (λ j. 1 ≤ f j) (λ j. le-prop) (s .above) (t .above) i;
+      within = isProp→PathP (λ j. f j ≤ 100) (λ j. le-prop) (s .within) (t .within) i;
+    }

@@ -10,7 +10,9 @@ pub enum EntryFault {
 
 pub impl Refusal for EntryFault as EntryRefusal {
     ghost numbered = { number-of };
+
     ghost layered = { layer-of };
+
     ghost lined = { line-of };
 
     fn number(&self) -> u8 {

@@ -12,7 +12,11 @@ impl Weight {
     pub fn new(value: u8) -> Result<Weight, EntryFault>
         ensures { λ r. ⌜ Cases r (λ w. w .value ≡ value) (λ e. (e ≡ OutOfRange) × (weighs value ≡ false)) ⌝ }
     {
-        if 1 <= value && value <= 100 { Ok(Weight { value }) } else { Err(EntryFault::OutOfRange) }
+        if 1 <= value && value <= 100 {
+            Ok(Weight { value })
+        } else {
+            Err(EntryFault::OutOfRange)
+        }
     }
 
     pub fn value(self) -> u8

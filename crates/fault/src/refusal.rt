@@ -7,7 +7,9 @@ use crate::layer::Layer;
 // speaks of (from 1; 0 where no text is read).
 pub trait Refusal {
     ghost numbered: { Self → ℕ };
+
     ghost layered: { Self → ALayer };
+
     ghost lined: { Self → ℕ };
 
     fn number(&self) -> u8

@@ -55,7 +55,7 @@ abbrev written : List ℕ → List ℕ → List ℕ
 written one nought =
     ended
     (codes "mission=1" ∷ (codes "counts=" ++ one) ∷ (codes "abilities=" ++ nought) ∷ (codes "nodes=" ++ one)
-     ∷ (codes "node=count key=" ++ (nought ++ (codes " least=" ++ nought))) ∷ [])
+    ∷ (codes "node=count key=" ++ (nought ++ (codes " least=" ++ nought))) ∷ [])
 
 pub first-written : written (numeral (pos 1)) (numeral (pos 0)) ≡ first-text
 first-written = λ i. written (one i) (nought i)

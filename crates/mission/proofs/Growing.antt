@@ -91,9 +91,10 @@ split-sound zero ts p e = let q = some-same (nil, ts) p e in (ap (λ (x : Trees 
 split-sound (suc n) nil p e = never e
 split-sound (suc n) (cons t ts) p e =
     let m = mapped-some (λ (q : Trees × Trees). (cons t (q .0), q .1)) (split n ts) p e in
-    let r = split-sound n ts (m .0) (m .1) in
-    (ap (λ (x : Trees × Trees). width (x .0)) (sym (m .2)) ∙ ap suc (r .0),
-     ap (λ (x : Trees × Trees). flattens (x .0) ++ flattens (x .1)) (sym (m .2)) ∙ append-assoc (flatten t) (flattens (m .0 .0)) (flattens (m .0 .1)) ∙ ap (λ xs. flatten t ++ xs) (r .1))
+    let r = split-sound n ts (m .0) (m .1) in (
+      ap (λ (x : Trees × Trees). width (x .0)) (sym (m .2)) ∙ ap suc (r .0),
+      ap (λ (x : Trees × Trees). flattens (x .0) ++ flattens (x .1)) (sym (m .2)) ∙ append-assoc (flatten t) (flattens (m .0 .0)) (flattens (m .0 .1)) ∙ ap (λ xs. flatten t ++ xs) (r .1),
+    )
 
 on-first-sound : (f : Tree → Tree) (n : Node) (ts us : Trees) → ((t : Tree) → flatten (f t) ≡ n ∷ flatten t) → on-first f ts ≡ Some us → flattens us ≡ n ∷ flattens ts
 on-first-sound f n nil us h e = never e
@@ -196,7 +197,7 @@ covers-from m l (suc k) i e b =
     let inside : i < length ns = omega arith in
     subst (Covers (places ns i)) (sym (drop-more ns i Not inside))
     (covers-cons (places ns i) (node-at ns i) (drop (i + 1) ns) (λ z. l Place i inside (inl z))
-     (subst (λ ls. Covers ls (drop (i + 1) ns)) (places-more ns i) (covers-from m l k (i + 1) (omega arith) (inl (omega arith)))))
+    (subst (λ ls. Covers ls (drop (i + 1) ns)) (places-more ns i) (covers-from m l k (i + 1) (omega arith) (inl (omega arith)))))
 
 one-tree : (ts : Trees) → width ts ≡ 1 → (t : Tree) × (ts ≡ cons t nil)
 one-tree nil e = absurd (omega arith)

@@ -30,11 +30,11 @@ abbrev pub leaves : ℕ → ℕ → Bool → Node → Bool
 leaves i len alone n = eqb (i + 1) len && (not alone || ltb 0 (arity n))
 
 after : (m : Shape) (i level : ℕ) → places (m .nodes) i ≡ level ∷ drop 1 (places (m .nodes) i)
-  → places (m .nodes) (suc i) ≡ taken (level ∷ drop 1 (places (m .nodes) i)) (node-at (m .nodes) i)
+    → places (m .nodes) (suc i) ≡ taken (level ∷ drop 1 (places (m .nodes) i)) (node-at (m .nodes) i)
 after m i level e = ap (places (m .nodes)) (sym (add-one i)) ∙ places-more (m .nodes) i ∙ ap (λ ls. taken ls (node-at (m .nodes) i)) e
 
 pub unplaced : (m : Shape) {seen : List Bool} {i level : ℕ} {alone : Bool} (n : Node) → Reading m seen i 1 level alone → n ≡ node-at (m .nodes) i
-  → leaves i (length (m .nodes)) alone n ≡ true → Unplaced (m .nodes) i
+    → leaves i (length (m .nodes)) alone n ≡ true → Unplaced (m .nodes) i
 unplaced m {seen} {i} {level} {alone} n r e t =
     let p = and-parts (eqb (i + 1) (length (m .nodes))) (not alone || ltb 0 (arity n)) t in
     let last : suc i ≡ length (m .nodes) = sym (add-one i) ∙ eqb-true (i + 1) (length (m .nodes)) (p .0) in
@@ -42,16 +42,16 @@ unplaced m {seen} {i} {level} {alone} n r e t =
     inr (last, λ z. some-open n level (drop 1 (places (m .nodes) i)) others (ap (taken (level ∷ drop 1 (places (m .nodes) i))) e ∙ sym (after m i level (r .next)) ∙ z))
 
 pub placed : (m : Shape) {seen : List Bool} {i level : ℕ} {alone : Bool} (n : Node) → Reading m seen i 1 level alone → n ≡ node-at (m .nodes) i
-  → leaves i (length (m .nodes)) alone n ≡ false → Unplaced (m .nodes) i → ⊥
+    → leaves i (length (m .nodes)) alone n ≡ false → Unplaced (m .nodes) i → ⊥
 placed m {seen} {i} {level} {alone} n r e t u =
     let rest = drop 1 (places (m .nodes) i) in
     ⊎-elim
     (λ z. no-nil level rest (sym z ∙ r .next))
     (λ z.
-        ⊎-elim
-        (λ f. eqb-false (i + 1) (length (m .nodes)) f (add-one i ∙ z .0))
-        (λ f. z .1 (after m i level (r .next) ∙ ap (taken (level ∷ rest)) (sym e) ∙ none-open n level rest (ap (λ a. not a || ltb 0 (arity n)) (sym (r .others)) ∙ f)))
-        (and-cases (eqb (i + 1) (length (m .nodes))) (not alone || ltb 0 (arity n)) t))
+    ⊎-elim
+    (λ f. eqb-false (i + 1) (length (m .nodes)) f (add-one i ∙ z .0))
+    (λ f. z .1 (after m i level (r .next) ∙ ap (taken (level ∷ rest)) (sym e) ∙ none-open n level rest (ap (λ a. not a || ltb 0 (arity n)) (sym (r .others)) ∙ f)))
+    (and-cases (eqb (i + 1) (length (m .nodes))) (not alone || ltb 0 (arity n)) t))
     u
 
 pub deep : (m : Shape) {seen : List Bool} {i level : ℕ} {alone : Bool} → Reading m seen i 1 level alone → 16 < level → Deep (m .nodes) i
@@ -69,7 +69,7 @@ named row None t = absurd (both-ways false refl t)
 named row (Some k) t = (k, refl, t)
 
 pub again : (m : Shape) {seen : List Bool} {i level : ℕ} {alone : Bool} (n : Node) → all-ranged (m .nodes) ≡ true → Reading m seen i 1 level alone
-  → n ≡ node-at (m .nodes) i → noted-in seen (skill-of n) ≡ true → Again (m .nodes) i
+    → n ≡ node-at (m .nodes) i → noted-in seen (skill-of n) ≡ true → Again (m .nodes) i
 again m {seen} {i} {level} {alone} n g r e t =
     let here = ap skill-of e in
     let k = named seen (skill-of n) t in
@@ -78,7 +78,7 @@ again m {seen} {i} {level} {alone} n g r e t =
     (j .0, k .0, j .1, j .2, sym here ∙ k .1)
 
 pub once : (m : Shape) {seen : List Bool} {i level : ℕ} {alone : Bool} (n : Node) → all-ranged (m .nodes) ≡ true → Reading m seen i 1 level alone
-  → n ≡ node-at (m .nodes) i → noted-in seen (skill-of n) ≡ false → Again (m .nodes) i → ⊥
+    → n ≡ node-at (m .nodes) i → noted-in seen (skill-of n) ≡ false → Again (m .nodes) i → ⊥
 once m {seen} {i} {level} {alone} n g r e f a =
     let k = a .1 in
     let small = skill-small (node-at (m .nodes) i) k (ranged-at (m .nodes) i g) (a .4) in
@@ -87,9 +87,9 @@ once m {seen} {i} {level} {alone} n g r e f a =
 
 -- no breach of a number below k
 pub none-below : (m : Shape) (i k : ℕ)
-  → (3 < k → Unplaced (m .nodes) i → ⊥) → (4 < k → Deep (m .nodes) i → ⊥) → (5 < k → Again (m .nodes) i → ⊥)
-  → (6 < k → Beyond m (node-at (m .nodes) i) → ⊥) → (7 < k → Overneeds (node-at (m .nodes) i) → ⊥)
-  → (b : Breach) → number b < k → Breaks m b i → ⊥
+    → (3 < k → Unplaced (m .nodes) i → ⊥) → (4 < k → Deep (m .nodes) i → ⊥) → (5 < k → Again (m .nodes) i → ⊥)
+    → (6 < k → Beyond m (node-at (m .nodes) i) → ⊥) → (7 < k → Overneeds (node-at (m .nodes) i) → ⊥)
+    → (b : Breach) → number b < k → Breaks m b i → ⊥
 none-below m i k p q r s t Place h = p h
 none-below m i k p q r s t Level h = q h
 none-below m i k p q r s t Twice h = r h

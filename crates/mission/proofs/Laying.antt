@@ -34,9 +34,9 @@ laid-append page at (x ∷ xs) ys =
 -- one laying after another
 pub laid-then : {p q s : List ℕ} {at m r : ℕ} (xs ys : List ℕ) → Laid p at xs q m → Laid q m ys s r → Laid p at (xs ++ ys) s r
 laid-then {p} {q} {s} {at} {m} {r} xs ys a b = record {
-    page = b .page ∙ ap (λ pg. laid pg m ys) (a .page) ∙ ap (λ k. laid (laid p at xs) k ys) (a .place) ∙ laid-append p at xs ys;
-    place = let u = a .place in let v = b .place in let l = length-append xs ys in omega arith;
-  }
+  page = b .page ∙ ap (λ pg. laid pg m ys) (a .page) ∙ ap (λ k. laid (laid p at xs) k ys) (a .place) ∙ laid-append p at xs ys;
+  place = let u = a .place in let v = b .place in let l = length-append xs ys in omega arith;
+}
 
 -- nothing laid
 pub laid-none : (page : List ℕ) (at : ℕ) → Laid page at [] page at

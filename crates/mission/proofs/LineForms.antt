@@ -87,7 +87,7 @@ unfolding valued above
 valued-none = refl
 
 maybe-onto : (name : List ℕ) (o : Option ℤ) (r : Rest) → free 61 name ≡ true → free 32 name ≡ true → free 32 (field name (codes "none")) ≡ true
-  → maybe name (Some (onto (field name (or-none o)) r)) ≡ Some (mapped kept o, r)
+    → maybe name (Some (onto (field name (or-none o)) r)) ≡ Some (mapped kept o, r)
 maybe-onto name None r f g h = number-or-onto-word name (codes "none") r f h
 maybe-onto name (Some z) r f g h = number-or-onto-number name (codes "none") z r f g valued-none
 
@@ -104,11 +104,11 @@ free-into (RAbilityKey key weight) = refl
 target-line : (t : RawTarget) → target (Some (spaced (field (codes "into") (into-word t)) (field (codes "key") (or-none (key-of t)) ∷ field (codes "weight") (or-none (weight-of t)) ∷ []))) ≡ Some (kept-target t)
 target-line t =
     ap (λ o. then o (λ (w : List ℕ × Rest). then (maybe (codes "key") (w .1)) (λ j. then (maybe (codes "weight") (j .1)) (λ v. then (last (v .0) (v .1)) (λ u. target-of (j .0) u (w .0))))))
-      (word-onto (codes "into") (into-word t) (Some (spaced (field (codes "key") (or-none (key-of t))) (field (codes "weight") (or-none (weight-of t)) ∷ []))) refl (free-into t))
+    (word-onto (codes "into") (into-word t) (Some (spaced (field (codes "key") (or-none (key-of t))) (field (codes "weight") (or-none (weight-of t)) ∷ []))) refl (free-into t))
     ∙ ap (λ o. then o (λ (j : Option ℤ × Rest). then (maybe (codes "weight") (j .1)) (λ v. then (last (v .0) (v .1)) (λ u. target-of (j .0) u (into-word t)))))
-      (maybe-onto (codes "key") (key-of t) (Some (field (codes "weight") (or-none (weight-of t)))) refl refl refl)
+    (maybe-onto (codes "key") (key-of t) (Some (field (codes "weight") (or-none (weight-of t)))) refl refl refl)
     ∙ ap (λ o. then o (λ (v : Option ℤ × Rest). then (last (v .0) (v .1)) (λ u. target-of (mapped kept (key-of t)) u (into-word t))))
-      (maybe-onto (codes "weight") (weight-of t) None refl refl refl)
+    (maybe-onto (codes "weight") (weight-of t) None refl refl refl)
     ∙ target-named t
 
 -- what stands after the first fields of a line
@@ -129,7 +129,7 @@ parsed-skill k d t =
     ap (λ o. then o (λ (k : ℤ × Rest). then (maybe (codes "device") (k .1)) (λ d. mapped (RSkill (k .0) (d .0)) (target (d .1)))))
     (number-onto (codes "skill") k (Some (device-text d t)) refl refl)
     ∙ ap (λ o. then o (λ (d : Option ℤ × Rest). mapped (RSkill (kept k) (d .0)) (target (d .1))))
-      (maybe-onto (codes "device") d (Some (target-text t)) refl refl refl)
+    (maybe-onto (codes "device") d (Some (target-text t)) refl refl refl)
     ∙ ap (mapped (RSkill (kept k) (mapped kept d))) (target-line t)
 
 parsed-ability : (key least over : ℤ) → ability (Some (onto (number-field (codes "key") key) (two-fields (codes "least") (codes "over") least over))) ≡ Some (kept-raw (RAbility key least over))
@@ -161,7 +161,7 @@ maybe-sound name r p e =
     (number-or-sound name (codes "none") r p e)
 
 target-of-sound : (o p : Option ℤ) (w : List ℕ) (t : RawTarget) → target-of (mapped kept o) (mapped kept p) w ≡ Some t
-  → (u : RawTarget) × (w ≡ into-word u) × (o ≡ key-of u) × (p ≡ weight-of u) × (t ≡ kept-target u)
+    → (u : RawTarget) × (w ≡ into-word u) × (o ≡ key-of u) × (p ≡ weight-of u) × (t ≡ kept-target u)
 target-of-sound None None w t e =
     ⊎-elim
     (λ y. (RNowhere, sameBytes-decides w (codes "none") .0 y, refl, refl, sym (some-same RNowhere t (sym (cond-true _ _ _ y) ∙ e))))
@@ -192,16 +192,17 @@ target-sound r t e =
     let kj = maybe-sound (codes "key") (w .1) j (b .1) in
     let kv = maybe-sound (codes "weight") (j .1) v (c .1) in
     let s = target-of-sound (kj .0) (kv .0) (w .0) t
-      (ap (λ o. target-of o (mapped kept (kv .0)) (w .0)) (sym (kj .2)) ∙ ap (λ o. target-of (j .0) o (w .0)) (sym (kv .2) ∙ l .1) ∙ d .2) in
-    let u = s .0 in
-    (u,
-     word-sound (codes "into") r w (a .1)
-     ∙ ap (λ x. Some (onto (field (codes "into") x) (w .1))) (s .1)
-     ∙ ap (λ q. Some (onto (field (codes "into") (into-word u)) q))
-       (kj .1 ∙ ap (λ o. Some (onto (field (codes "key") (or-none o)) (j .1))) (s .2)
-        ∙ ap (λ q. Some (onto (field (codes "key") (or-none (key-of u))) q))
+    (ap (λ o. target-of o (mapped kept (kv .0)) (w .0)) (sym (kj .2)) ∙ ap (λ o. target-of (j .0) o (w .0)) (sym (kv .2) ∙ l .1) ∙ d .2) in
+    let u = s .0 in (
+      u,
+      word-sound (codes "into") r w (a .1)
+          ∙ ap (λ x. Some (onto (field (codes "into") x) (w .1))) (s .1)
+          ∙ ap (λ q. Some (onto (field (codes "into") (into-word u)) q))
+          (kj .1 ∙ ap (λ o. Some (onto (field (codes "key") (or-none o)) (j .1))) (s .2)
+          ∙ ap (λ q. Some (onto (field (codes "key") (or-none (key-of u))) q))
           (kv .1 ∙ ap (λ o. Some (onto (field (codes "weight") (or-none o)) (v .1))) (s .3) ∙ ap (λ q. Some (onto (field (codes "weight") (or-none (weight-of u))) q)) (l .0))),
-     s .4)
+      s .4,
+    )
 
 -- what the fields after the first are read as
 abbrev Filled-as : Rest → NodeKind → RawNode → Type 0
@@ -216,11 +217,12 @@ skill-sound r w e =
     let c = mapped-some (RSkill (k .0) (d .0)) (target (d .1)) w (b .2) in
     let nk = number-sound (codes "skill") r k (a .1) in
     let nd = maybe-sound (codes "device") (k .1) d (b .1) in
-    let nt = target-sound (d .1) (c .0) (c .1) in
-    (RSkill (nk .0) (nd .0) (nt .0),
-     ap (onto (field (codes "node") (codes "skill")))
-     (nk .1 ∙ ap (λ q. Some (onto (number-field (codes "skill") (nk .0)) q)) (nd .1 ∙ ap (λ q. Some (onto (field (codes "device") (or-none (nd .0))) q)) (nt .1))),
-     sym (c .2) ∙ (λ i. RSkill (nk .2 i) (nd .2 i) (nt .2 i)))
+    let nt = target-sound (d .1) (c .0) (c .1) in (
+      RSkill (nk .0) (nd .0) (nt .0),
+      ap (onto (field (codes "node") (codes "skill")))
+          (nk .1 ∙ ap (λ q. Some (onto (number-field (codes "skill") (nk .0)) q)) (nd .1 ∙ ap (λ q. Some (onto (field (codes "device") (or-none (nd .0))) q)) (nt .1))),
+      sym (c .2) ∙ (λ i. RSkill (nk .2 i) (nd .2 i) (nt .2 i)),
+    )
 
 ability-sound : (r : Rest) (w : RawNode) → ability r ≡ Some w → Filled-as r KAbility w
 ability-sound r w e =
@@ -228,25 +230,28 @@ ability-sound r w e =
     let k = a .0 in
     let c = mapped-some (λ (q : ℤ × ℤ). RAbility (k .0) (q .0) (q .1)) (pair-ended (codes "least") (codes "over") (k .1)) w (a .2) in
     let nk = number-sound (codes "key") r k (a .1) in
-    let np = pair-ended-sound (codes "least") (codes "over") (k .1) (c .0) (c .1) in
-    (RAbility (nk .0) (np .0) (np .1),
-     ap (onto (field (codes "node") (codes "ability"))) (nk .1 ∙ ap (λ q. Some (onto (number-field (codes "key") (nk .0)) q)) (np .2)),
-     sym (c .2) ∙ (λ i. RAbility (nk .2 i) (np .3 i .0) (np .3 i .1)))
+    let np = pair-ended-sound (codes "least") (codes "over") (k .1) (c .0) (c .1) in (
+      RAbility (nk .0) (np .0) (np .1),
+      ap (onto (field (codes "node") (codes "ability"))) (nk .1 ∙ ap (λ q. Some (onto (number-field (codes "key") (nk .0)) q)) (np .2)),
+      sym (c .2) ∙ (λ i. RAbility (nk .2 i) (np .3 i .0) (np .3 i .1)),
+    )
 
 one-sound : (k : NodeKind) (a : List ℕ) (make : ℤ → RawNode) (r : Rest) (w : RawNode) → mapped make (one-ended a r) ≡ Some w
-  → ((z : ℤ) → line (make z) ≡ kind-line k (number-field a z ∷ [])) → ((z : ℤ) → kept-raw (make z) ≡ make (kept z)) → Filled-as r k w
+    → ((z : ℤ) → line (make z) ≡ kind-line k (number-field a z ∷ [])) → ((z : ℤ) → kept-raw (make z) ≡ make (kept z)) → Filled-as r k w
 one-sound k a make r w e l h =
     let m = mapped-some make (one-ended a r) w e in
     let s = one-ended-sound a r (m .0) (m .1) in
     (make (s .0), ap (onto (field (codes "node") (kind-word k))) (s .1) ∙ sym (l (s .0)), sym (m .2) ∙ ap make (s .2) ∙ sym (h (s .0)))
 
 two-sound : (k : NodeKind) (a b : List ℕ) (make : ℤ → ℤ → RawNode) (r : Rest) (w : RawNode) → mapped (λ (p : ℤ × ℤ). make (p .0) (p .1)) (pair-ended a b r) ≡ Some w
-  → ((y z : ℤ) → line (make y z) ≡ kind-line k (number-field a y ∷ number-field b z ∷ [])) → ((y z : ℤ) → kept-raw (make y z) ≡ make (kept y) (kept z)) → Filled-as r k w
+    → ((y z : ℤ) → line (make y z) ≡ kind-line k (number-field a y ∷ number-field b z ∷ [])) → ((y z : ℤ) → kept-raw (make y z) ≡ make (kept y) (kept z)) → Filled-as r k w
 two-sound k a b make r w e l h =
     let m = mapped-some (λ (p : ℤ × ℤ). make (p .0) (p .1)) (pair-ended a b r) w e in
-    let s = pair-ended-sound a b r (m .0) (m .1) in
-    (make (s .0) (s .1), ap (onto (field (codes "node") (kind-word k))) (s .2) ∙ sym (l (s .0) (s .1)),
-     sym (m .2) ∙ ap (λ (p : ℤ × ℤ). make (p .0) (p .1)) (s .3) ∙ sym (h (s .0) (s .1)))
+    let s = pair-ended-sound a b r (m .0) (m .1) in (
+      make (s .0) (s .1),
+      ap (onto (field (codes "node") (kind-word k))) (s .2) ∙ sym (l (s .0) (s .1)),
+      sym (m .2) ∙ ap (λ (p : ℤ × ℤ). make (p .0) (p .1)) (s .3) ∙ sym (h (s .0) (s .1)),
+    )
 
 filled-sound : (k : NodeKind) (r : Rest) (w : RawNode) → filled r k ≡ Some w → Filled-as r k w
 filled-sound (KGroup kind) r w e = one-sound (KGroup kind) (codes "kids") (RGroup kind) r w e (λ z. refl) (λ z. refl)
@@ -262,11 +267,12 @@ parsed-sound xs w e =
     let a = then-some (word (codes "node") (Some xs)) (λ p. then (kind (p .0)) (filled (p .1))) w e in
     let p = a .0 in
     let b = then-some (kind (p .0)) (filled (p .1)) w (a .2) in
-    let f = filled-sound (b .0) (p .1) w (b .2) in
-    (f .0,
-     some-same _ _ (word-sound (codes "node") (Some xs) p (a .1))
-     ∙ ap (λ x. onto (field (codes "node") x) (p .1)) (kind-sound (p .0) (b .0) (b .1)) ∙ f .1,
-     f .2)
+    let f = filled-sound (b .0) (p .1) w (b .2) in (
+      f .0,
+      some-same _ _ (word-sound (codes "node") (Some xs) p (a .1))
+          ∙ ap (λ x. onto (field (codes "node") x) (p .1)) (kind-sound (p .0) (b .0) (b .1)) ∙ f .1,
+      f .2,
+    )
 
 -- holding numbers changes no range
 both : (a b c d : Bool) → a ≡ c → b ≡ d → (a && b) ≡ (c && d)
@@ -332,7 +338,7 @@ same-raw (RAbility key least over) h =
 
 -- a line that is read, judged
 pub judged : (xs : List ℕ) (w : RawNode) (r : Result Node Flaw) → Some w ≡ parsed xs
-  → Cases r (λ n. (raw n ≡ w) × (ranged w ≡ true)) (λ e. (e ≡ Range) × (ranged w ≡ false)) → Judged-line xs r
+    → Cases r (λ n. (raw n ≡ w) × (ranged w ≡ true)) (λ e. (e ≡ Range) × (ranged w ≡ false)) → Judged-line xs r
 judged xs w (Ok n) e h =
     let p = parsed-sound xs w (sym e) in
     let good : ranged (p .0) ≡ true = sym (ranged-kept (p .0)) ∙ ap ranged (sym (p .2)) ∙ h .1 in

@@ -25,8 +25,9 @@ ranged-push [] n h g = and-from (ranged (raw n)) true g refl
 ranged-push (k ∷ ns) n h g = let p = and-parts (ranged (raw k)) (all-ranged ns) h in and-from _ _ (p .0) (ranged-push ns n (p .1) g)
 
 pub taken-push : (t : List ℕ) (ns : List Node) (n : Node) (rest l after : List ℕ) → Taken t ns rest → rest ≡ l ++ (10 ∷ after) → l ≡ node-line n → ranged (raw n) ≡ true
-  → Taken t (ns ++ (n ∷ [])) after
-taken-push t ns n rest l after h e k g =
-    (h .0 ∙ ap (λ r. ended (map node-line ns) ++ r) (e ∙ ap (λ x. x ++ (10 ∷ after)) k) ∙ sym (ended-push (map node-line ns) (node-line n) after)
-     ∙ ap (λ ls. ended ls ++ after) (sym (map-append node-line ns (n ∷ []))),
-     ranged-push ns n (h .1) g)
+    → Taken t (ns ++ (n ∷ [])) after
+taken-push t ns n rest l after h e k g = (
+  h .0 ∙ ap (λ r. ended (map node-line ns) ++ r) (e ∙ ap (λ x. x ++ (10 ∷ after)) k) ∙ sym (ended-push (map node-line ns) (node-line n) after)
+      ∙ ap (λ ls. ended ls ++ after) (sym (map-append node-line ns (n ∷ []))),
+  ranged-push ns n (h .1) g,
+)

@@ -22,8 +22,8 @@ use Rattle.mission.specs.Lines.{number-field, Bad}
 use Rattle.mission.specs.Reading.{plain, Judged-number}
 
 pub judged-number : (name xs : List ℕ) (lo hi : ℕ) (z : ℤ) (r : Result ℕ Flaw) → hi < 65536 → Some z ≡ one-ended name (Some xs)
-  → Cases r (λ n. (pos n ≡ z) × (within (pos lo) (pos hi) z ≡ true)) (λ e. (e ≡ Range) × (within (pos lo) (pos hi) z ≡ false))
-  → Judged-number name (within (pos lo) (pos hi)) xs r
+    → Cases r (λ n. (pos n ≡ z) × (within (pos lo) (pos hi) z ≡ true)) (λ e. (e ≡ Range) × (within (pos lo) (pos hi) z ≡ false))
+    → Judged-number name (within (pos lo) (pos hi)) xs r
 judged-number name xs lo hi z (Ok n) small e h =
     let s = one-ended-sound name (Some xs) z (sym e) in
     let y = s .0 in

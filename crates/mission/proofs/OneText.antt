@@ -84,7 +84,7 @@ free-line (RLoop kind times) = free-kind-line (KLoop kind) (number-field (codes 
 free-line (RSkill skill device target) =
     free-kind-line KSkill
     (number-field (codes "skill") skill ∷ field (codes "device") (or-none device) ∷ field (codes "into") (into-word target)
-     ∷ field (codes "key") (or-none (key-of target)) ∷ field (codes "weight") (or-none (weight-of target)) ∷ [])
+    ∷ field (codes "key") (or-none (key-of target)) ∷ field (codes "weight") (or-none (weight-of target)) ∷ [])
     (free-number (codes "skill") skill refl, (free-or-none (codes "device") device refl, (free-into target, (free-or-none (codes "key") (key-of target) refl, (free-or-none (codes "weight") (weight-of target) refl, tt)))))
 free-line (RCount key least) =
     free-kind-line KCount (number-field (codes "key") key ∷ number-field (codes "least") least ∷ []) (free-number (codes "key") key refl, (free-number (codes "least") least refl, tt))
@@ -263,8 +263,8 @@ pub one-node : (n m : Node) → raw n ≡ raw m → n ≡ m
 one-node n m e =
     let c = same-mapped (λ (t : CountThreshold). t .least) same-count-threshold (counted n) (counted m) (counted-least n ∙ ap least-of e ∙ sym (counted-least m)) in
     let a = same-mapped (λ (t : AbilityThreshold). (t .least, pos (t .over)))
-          (λ s t q. same-ability-threshold s t (ap (λ (p : ℤ × ℤ). p .0) q) (pos-same (s .over) (t .over) (ap (λ (p : ℤ × ℤ). p .1) q)))
-          (able n) (able m) (able-ratio n ∙ ap ratio-of e ∙ sym (able-ratio m)) in
+    (λ s t q. same-ability-threshold s t (ap (λ (p : ℤ × ℤ). p .0) q) (pos-same (s .over) (t .over) (ap (λ (p : ℤ × ℤ). p .1) q)))
+    (able n) (able m) (able-ratio n ∙ ap ratio-of e ∙ sym (able-ratio m)) in
     let w = same-mapped (λ (w : Weight). pos (w .value)) (λ v w q. same-weight v w (pos-same (v .value) (w .value) q)) (weighed n) (weighed m) (weighed-load n ∙ ap load-of e ∙ sym (weighed-load m)) in
     some-same n m (sym (rebuilt-back n) ∙ (λ i. rebuilt (c i) (a i) (w i) (e i)) ∙ rebuilt-back m)
 

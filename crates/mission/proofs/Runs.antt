@@ -34,19 +34,19 @@ drop-run k level xs = drop-at (replicate k level) xs k (length-replicate k level
 
 -- the places of a node's children come first
 opened : (m : Shape) (i level : ℕ) (n : Node) → places (m .nodes) i ≡ level ∷ drop 1 (places (m .nodes) i) → n ≡ node-at (m .nodes) i
-  → places (m .nodes) (i + 1) ≡ replicate (arity n) (level + 1) ++ drop 1 (places (m .nodes) i)
+    → places (m .nodes) (i + 1) ≡ replicate (arity n) (level + 1) ++ drop 1 (places (m .nodes) i)
 opened m i level n e k =
     let rest = drop 1 (places (m .nodes) i) in
     places-more (m .nodes) i ∙ ap (λ ls. taken ls (node-at (m .nodes) i)) e
     ∙ ap (λ x. replicate (arity x) (suc level) ++ rest) (sym k) ∙ ap (λ l. replicate (arity n) l ++ rest) (sym (add-one level))
 
 behind : (m : Shape) (i level : ℕ) (n : Node) → places (m .nodes) i ≡ level ∷ drop 1 (places (m .nodes) i) → n ≡ node-at (m .nodes) i
-  → drop (arity n) (places (m .nodes) (i + 1)) ≡ drop 1 (places (m .nodes) i)
+    → drop (arity n) (places (m .nodes) (i + 1)) ≡ drop 1 (places (m .nodes) i)
 behind m i level n e k = ap (drop (arity n)) (opened m i level n e k) ∙ drop-run (arity n) (level + 1) (drop 1 (places (m .nodes) i))
 
 pub into-run : (m : Shape) {seen seen′ : List Bool} {i level kids : ℕ} {alone : Bool} (n : Node) → Reading m seen i 1 level alone → i < length (m .nodes)
-  → ((b : Breach) → Breaks m b i → ⊥) → n ≡ node-at (m .nodes) i → seen′ ≡ noted seen (skill-of n) → kids ≡ arity n
-  → Reading m seen′ (i + 1) kids (level + 1) alone
+    → ((b : Breach) → Breaks m b i → ⊥) → n ≡ node-at (m .nodes) i → seen′ ≡ noted seen (skill-of n) → kids ≡ arity n
+    → Reading m seen′ (i + 1) kids (level + 1) alone
 into-run m {seen} {seen′} {i} {level} {kids} {alone} n r w ok e s k =
     let b = behind m i level n (r .next) e in
     subst (λ a. Reading m seen′ (i + 1) a (level + 1) alone) (sym k)
@@ -59,17 +59,18 @@ into-run m {seen} {seen′} {i} {level} {kids} {alone} n r w ok e s k =
     })
 
 pub out-of-run : (m : Shape) {seen seen′ : List Bool} {i level kids end : ℕ} {alone : Bool} (n : Node) → Reading m seen i 1 level alone
-  → n ≡ node-at (m .nodes) i → kids ≡ arity n → Filled m seen′ (i + 1) kids end → (i < end) × Filled m seen′ i 1 end
+    → n ≡ node-at (m .nodes) i → kids ≡ arity n → Filled m seen′ (i + 1) kids end → (i < end) × Filled m seen′ i 1 end
 out-of-run m {seen} {seen′} {i} {level} {kids} {end} {alone} n r e k f =
-    let on = f .on in
-    (omega arith,
-     record {
-       on = omega arith;
-       within = f .within;
-       sound = f .sound;
-       skills = f .skills;
-       left = f .left ∙ ap (λ a. drop a (places (m .nodes) (i + 1))) k ∙ behind m i level n (r .next) e;
-     })
+    let on = f .on in (
+      omega arith,
+      record {
+        on = omega arith;
+        within = f .within;
+        sound = f .sound;
+        skills = f .skills;
+        left = f .left ∙ ap (λ a. drop a (places (m .nodes) (i + 1))) k ∙ behind m i level n (r .next) e;
+      },
+    )
 
 -- the first place of a run
 first-of : (kids level : ℕ) (xs : List ℕ) → 0 < kids → replicate kids level ++ xs ≡ level ∷ (replicate (kids - 1) level ++ xs)
@@ -77,11 +78,11 @@ first-of zero level xs h = absurd (omega arith)
 first-of (suc k) level xs h = let e : k ≡ suc k - 1 = omega arith in ap (λ a. level ∷ (replicate a level ++ xs)) e
 
 run-split : (m : Shape) {seen : List Bool} {i kids level : ℕ} {alone : Bool} → Reading m seen i kids level alone → 0 < kids
-  → places (m .nodes) i ≡ level ∷ (replicate (kids - 1) level ++ drop kids (places (m .nodes) i))
+    → places (m .nodes) i ≡ level ∷ (replicate (kids - 1) level ++ drop kids (places (m .nodes) i))
 run-split m {seen} {i} {kids} {level} {alone} r h = r .next ∙ first-of kids level (drop kids (places (m .nodes) i)) h
 
 run-tail : (m : Shape) {seen : List Bool} {i kids level : ℕ} {alone : Bool} → Reading m seen i kids level alone → 0 < kids
-  → drop 1 (places (m .nodes) i) ≡ replicate (kids - 1) level ++ drop kids (places (m .nodes) i)
+    → drop 1 (places (m .nodes) i) ≡ replicate (kids - 1) level ++ drop kids (places (m .nodes) i)
 run-tail m r h = ap (drop 1) (run-split m r h)
 
 only-one : (k : ℕ) (alone : Bool) (level : ℕ) (xs : List ℕ) → 0 < k → alone ≡ none-left xs → (alone && eqb k 1) ≡ none-left (replicate (k - 1) level ++ xs)
@@ -101,25 +102,25 @@ node-left m {seen} {i} {kids} {level} {alone} r h b =
     ⊎-elim
     (λ (l : i < length (m .nodes)). l)
     (λ (l : length (m .nodes) ≤ i).
-        let w = r .within in
-        let last : suc (i - 1) ≡ length (m .nodes) = omega arith in
-        let here : suc (i - 1) ≡ i = omega arith in
-        absurd (r .sound Place (i - 1) (omega arith)
-          (inr (last, λ z. some-place level _ (places (m .nodes) i) (run-split m r h) (ap (places (m .nodes)) (sym here) ∙ z)))))
+    let w = r .within in
+    let last : suc (i - 1) ≡ length (m .nodes) = omega arith in
+    let here : suc (i - 1) ≡ i = omega arith in
+    absurd (r .sound Place (i - 1) (omega arith)
+    (inr (last, λ z. some-place level _ (places (m .nodes) i) (run-split m r h) (ap (places (m .nodes)) (sym here) ∙ z)))))
     (cases-lt i (length (m .nodes)))
 
 pub run-first : (m : Shape) {seen : List Bool} {i kids level : ℕ} {alone : Bool} → Reading m seen i kids level alone → 0 < kids
-  → Reading m seen i 1 level (alone && eqb kids 1)
+    → Reading m seen i 1 level (alone && eqb kids 1)
 run-first m {seen} {i} {kids} {level} {alone} r h = record {
-    within = r .within;
-    sound = r .sound;
-    skills = r .skills;
-    next = run-split m r h ∙ ap (λ xs. level ∷ xs) (sym (run-tail m r h));
-    others = only-one kids alone level (drop kids (places (m .nodes) i)) h (r .others) ∙ ap none-left (sym (run-tail m r h));
-  }
+  within = r .within;
+  sound = r .sound;
+  skills = r .skills;
+  next = run-split m r h ∙ ap (λ xs. level ∷ xs) (sym (run-tail m r h));
+  others = only-one kids alone level (drop kids (places (m .nodes) i)) h (r .others) ∙ ap none-left (sym (run-tail m r h));
+}
 
 pub run-rest : (m : Shape) {seen seen′ : List Bool} {i kids level next : ℕ} {alone : Bool} → Reading m seen i kids level alone → 0 < kids
-  → Filled m seen′ i 1 next → Reading m seen′ next (kids - 1) level alone
+    → Filled m seen′ i 1 next → Reading m seen′ next (kids - 1) level alone
 run-rest m {seen} {seen′} {i} {kids} {level} {next} {alone} r h f =
     let tail = f .left ∙ run-tail m r h in
     let rest : drop (kids - 1) (places (m .nodes) next) ≡ drop kids (places (m .nodes) i) = ap (drop (kids - 1)) tail ∙ drop-run (kids - 1) level (drop kids (places (m .nodes) i)) in
@@ -154,12 +155,12 @@ at-least Need = omega arith
 -- the whole: one place at level 1, and none left after the last node
 pub root : (m : Shape) → Reading m (replicate 64 false) 0 1 1 true
 root m = record {
-    within = omega arith;
-    sound = λ b j l x. omega arith;
-    skills = sym (row-none (m .nodes));
-    next = places-none (m .nodes) ∙ ap (λ xs. 1 ∷ drop 1 xs) (sym (places-none (m .nodes)));
-    others = ap (λ xs. none-left (drop 1 xs)) (sym (places-none (m .nodes)));
-  }
+  within = omega arith;
+  sound = λ b j l x. omega arith;
+  skills = sym (row-none (m .nodes));
+  next = places-none (m .nodes) ∙ ap (λ xs. 1 ∷ drop 1 xs) (sym (places-none (m .nodes)));
+  others = ap (λ xs. none-left (drop 1 xs)) (sym (places-none (m .nodes)));
+}
 
 pub too-many : (m : Shape) {seen : List Bool} {end : ℕ} → Filled m seen 0 1 end → end < length (m .nodes) → First m Place end
 too-many m {seen} {end} f l =

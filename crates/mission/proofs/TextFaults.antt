@@ -84,7 +84,7 @@ rest-next {t} {rest} {ls} b = ap (skip (length ls)) (b .is) ∙ skip-ended ls re
 
 -- a line of its form, in range, has no flaw
 pub not-wrong : {X : Type 0} (form : X → List ℕ) (good : X → Bool) (same : (x y : X) → form x ≡ form y → good x ≡ good y) (x : X) (l : Option (List ℕ)) (f : Flaw)
-  → l ≡ Some (form x) → good x ≡ true → Wrong form good l f → ⊥
+    → l ≡ Some (form x) → good x ≡ true → Wrong form good l f → ⊥
 not-wrong form good same x l Form e g w = w x e
 not-wrong form good same x l Range e g w =
     true-not-false (good x) g (same x (w .0) (some-same (form x) (form (w .0)) (sym e ∙ w .1)) ∙ w .2)
@@ -118,7 +118,7 @@ right-3 t n g e d w = not-wrong nodes-line sized (same-field (codes "nodes") siz
 
 -- the first flaw, where no line before it has one
 pub first-at : (t : List ℕ) (k : ℕ) (f : Flaw) → ((j : ℕ) (g : Flaw) → j < k → Flawed t j g → ⊥) → Flawed t k f
-  → ((g : Flaw) → flaw-number g < flaw-number f → Flawed t k g → ⊥) → First-flaw t k f
+    → ((g : Flaw) → flaw-number g < flaw-number f → Flawed t k g → ⊥) → First-flaw t k f
 first-at t k f before here lower =
     (here, λ j g s w. ⊎-elim (λ h. before j g h w) (λ h. lower g (h .1) (subst (λ i. Flawed t i g) (h .0) w)) s)
 
@@ -132,7 +132,7 @@ before-2 t a e₀ e₁ d (suc zero) g h w = right-1 t a g e₁ d w
 before-2 t a e₀ e₁ d (suc (suc j)) g h w = absurd (omega arith)
 
 before-3 : (t : List ℕ) (a b : ℕ) → nth 0 t ≡ Some (head-line tt) → nth 1 t ≡ Some (counts-line (pos a)) → declared (pos a) ≡ true
-  → nth 2 t ≡ Some (abilities-line (pos b)) → declared (pos b) ≡ true → (j : ℕ) (g : Flaw) → j < 3 → Flawed t j g → ⊥
+    → nth 2 t ≡ Some (abilities-line (pos b)) → declared (pos b) ≡ true → (j : ℕ) (g : Flaw) → j < 3 → Flawed t j g → ⊥
 before-3 t a b e₀ e₁ d₁ e₂ d₂ zero g h w = right-0 t g e₀ w
 before-3 t a b e₀ e₁ d₁ e₂ d₂ (suc zero) g h w = right-1 t a g e₁ d₁ w
 before-3 t a b e₀ e₁ d₁ e₂ d₂ (suc (suc zero)) g h w = right-2 t b g e₂ d₂ w
@@ -178,15 +178,21 @@ flaw-1 t rest f b l w =
 
 pub flaw-2 : (t rest : List ℕ) (a : ℕ) (f : LineFault) → Head-2 t a rest → f .line ≡ 3 → Wrong abilities-line declared (first-of rest) (f .flaw) → Caught t f
 flaw-2 t rest a f b l w =
-    let v = subst (λ o. Wrong abilities-line declared o (f .flaw)) (sym (line-next (b .0))) w in
-    (2, l, first-at t 2 (f .flaw) (before-2 t a (line-at 0 (b .0) (omega arith)) (line-at 1 (b .0) (omega arith)) (b .1)) v
-      (λ g h u. wrong-order abilities-line declared (nth 2 t) (f .flaw) g v h u))
+    let v = subst (λ o. Wrong abilities-line declared o (f .flaw)) (sym (line-next (b .0))) w in (
+      2,
+      l,
+      first-at t 2 (f .flaw) (before-2 t a (line-at 0 (b .0) (omega arith)) (line-at 1 (b .0) (omega arith)) (b .1)) v
+          (λ g h u. wrong-order abilities-line declared (nth 2 t) (f .flaw) g v h u),
+    )
 
 pub flaw-3 : (t rest : List ℕ) (a c : ℕ) (f : LineFault) → Head-3 t a c rest → f .line ≡ 4 → Wrong nodes-line sized (first-of rest) (f .flaw) → Caught t f
 flaw-3 t rest a c f b l w =
-    let v = subst (λ o. Wrong nodes-line sized o (f .flaw)) (sym (line-next (b .0))) w in
-    (3, l, first-at t 3 (f .flaw) (before-3 t a c (line-at 0 (b .0) (omega arith)) (line-at 1 (b .0) (omega arith)) (b .1) (line-at 2 (b .0) (omega arith)) (b .2)) v
-      (λ g h u. wrong-order nodes-line sized (nth 3 t) (f .flaw) g v h u))
+    let v = subst (λ o. Wrong nodes-line sized o (f .flaw)) (sym (line-next (b .0))) w in (
+      3,
+      l,
+      first-at t 3 (f .flaw) (before-3 t a c (line-at 0 (b .0) (omega arith)) (line-at 1 (b .0) (omega arith)) (b .1) (line-at 2 (b .0) (omega arith)) (b .2)) v
+          (λ g h u. wrong-order nodes-line sized (nth 3 t) (f .flaw) g v h u),
+    )
 
 -- node lines after the four
 pub record Noded (t : List ℕ) (a b n : ℕ) (ns : List Node) (rest : List ℕ) : Type 0 where
@@ -239,7 +245,7 @@ none-before {t} {rest} {a} {b} {n} {ns} k le (suc (suc (suc (suc i)))) g h w =
 
 -- a flaw of the next node line is the first
 pub flaw-next : {t rest : List ℕ} {a b n : ℕ} {ns : List Node} (f : Flaw) → Noded t a b n ns rest → length ns ≤ n → Node-flawed t n (length ns) f
-  → ((g : Flaw) → flaw-number g < flaw-number f → Node-flawed t n (length ns) g → ⊥) → First-flaw t (suc (suc (suc (suc (length ns))))) f
+    → ((g : Flaw) → flaw-number g < flaw-number f → Node-flawed t n (length ns) g → ⊥) → First-flaw t (suc (suc (suc (suc (length ns))))) f
 flaw-next {t} {rest} {a} {b} {n} {ns} f k le w lower =
     let third = line-at 3 (k .begins) (omega arith) in
     first-at t (suc (suc (suc (suc (length ns))))) f (λ j g h v. none-before k le j g (omega arith) v) (n, third, k .size, w)
@@ -256,20 +262,22 @@ flaw-later t start a b n f h s =
     let ns = s .0 in
     let rest = s .1 in
     let k = noded t start rest a b n ns h (s .2) in
-    let place : suc (suc (suc (suc (length ns)))) + 1 ≡ length ns + 5 = omega arith in
-    (suc (suc (suc (suc (length ns)))), s .3 ∙ sym place,
-     ⊎-elim
-     (λ x.
-         let lt = x .0 in
-         let w = subst (λ l. Wrong line ranged l (f .flaw)) (sym (next-is k)) (x .1) in
-         flaw-next (f .flaw) k (omega arith) (inl (lt, w))
-         (λ g less v. ⊎-elim (λ u. wrong-order line ranged (nth (length ns + 4) t) (f .flaw) g w less (u .1)) (λ u. let eq = u .0 in absurd (omega arith)) v))
-     (λ y.
-         let eq = y .0 in
-         let one : flaw-number (f .flaw) ≡ 1 = ap flaw-number (y .1) in
-         flaw-next (f .flaw) k (omega arith) (inr (y .0, y .1, λ q. y .2 (some-same rest [] (sym (rest-is k) ∙ q))))
-         (λ g less v. ⊎-elim (λ u. let lt = u .0 in absurd (omega arith)) (λ u. let two : flaw-number g ≡ 1 = ap flaw-number (u .1) in absurd (omega arith)) v))
-     (s .4))
+    let place : suc (suc (suc (suc (length ns)))) + 1 ≡ length ns + 5 = omega arith in (
+      suc (suc (suc (suc (length ns)))),
+      s .3 ∙ sym place,
+      ⊎-elim
+          (λ x.
+          let lt = x .0 in
+          let w = subst (λ l. Wrong line ranged l (f .flaw)) (sym (next-is k)) (x .1) in
+          flaw-next (f .flaw) k (omega arith) (inl (lt, w))
+          (λ g less v. ⊎-elim (λ u. wrong-order line ranged (nth (length ns + 4) t) (f .flaw) g w less (u .1)) (λ u. let eq = u .0 in absurd (omega arith)) v))
+          (λ y.
+          let eq = y .0 in
+          let one : flaw-number (f .flaw) ≡ 1 = ap flaw-number (y .1) in
+          flaw-next (f .flaw) k (omega arith) (inr (y .0, y .1, λ q. y .2 (some-same rest [] (sym (rest-is k) ∙ q))))
+          (λ g less v. ⊎-elim (λ u. let lt = u .0 in absurd (omega arith)) (λ u. let two : flaw-number g ≡ 1 = ap flaw-number (u .1) in absurd (omega arith)) v))
+          (s .4),
+    )
 
 -- the text of a mission in range has no flaw
 pub whole-noded : (t : List ℕ) (m : Shape) → t ≡ text m → In-range m → Noded t (m .counts) (m .abilities) (length (m .nodes)) (m .nodes) []

@@ -87,7 +87,7 @@ line (RLoop kind times) = kind-line (KLoop kind) (number-field (codes "times") t
 line (RSkill skill device target) =
     kind-line KSkill
     (number-field (codes "skill") skill ∷ field (codes "device") (or-none device) ∷ field (codes "into") (into-word target)
-     ∷ field (codes "key") (or-none (key-of target)) ∷ field (codes "weight") (or-none (weight-of target)) ∷ [])
+    ∷ field (codes "key") (or-none (key-of target)) ∷ field (codes "weight") (or-none (weight-of target)) ∷ [])
 line (RCount key least) = kind-line KCount (number-field (codes "key") key ∷ number-field (codes "least") least ∷ [])
 line (RAbility key least over) =
     kind-line KAbility (number-field (codes "key") key ∷ number-field (codes "least") least ∷ number-field (codes "over") over ∷ [])

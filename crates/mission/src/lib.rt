@@ -14,6 +14,6 @@ pub mod page_fault;
 mod ranges;
 mod raw;
 mod reading;
-mod writing;
 mod tree;
 pub mod tree_fault;
+mod writing;

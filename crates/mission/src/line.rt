@@ -63,9 +63,21 @@ fn target_of(key: Option<i32>, weight: Option<i32>, into: &[u8]) -> Option<RawTa
     ensures { λ r. ⌜ r ≡ aim-of key weight (now (into .entry)) ⌝ }
 {
     match (key, weight) {
-        (None, None) => if same(into, b"none") { Some(RawTarget::Nowhere) } else { None },
-        (Some(key), None) => if same(into, b"count") { Some(RawTarget::Count { key }) } else { None },
-        (Some(key), Some(weight)) => if same(into, b"ability") { Some(RawTarget::Ability { key, weight }) } else { None },
+        (None, None) => if same(into, b"none") {
+            Some(RawTarget::Nowhere)
+        } else {
+            None
+        },
+        (Some(key), None) => if same(into, b"count") {
+            Some(RawTarget::Count { key })
+        } else {
+            None
+        },
+        (Some(key), Some(weight)) => if same(into, b"ability") {
+            Some(RawTarget::Ability { key, weight })
+        } else {
+            None
+        },
         (None, Some(_)) => None,
     }
 }
@@ -86,7 +98,11 @@ fn skill(fields: Fields) -> Option<RawNode>
     let (skill, fields) = fields.number(b"skill")?;
     let (device, fields) = fields.number_or(b"device", b"none")?;
     let target = target(fields)?;
-    Some(RawNode::Skill { skill, device, target })
+    Some(RawNode::Skill {
+        skill,
+        device,
+        target,
+    })
 }
 
 fn ability(fields: Fields) -> Option<RawNode>

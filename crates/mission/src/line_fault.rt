@@ -1,8 +1,8 @@
 ghost use Rattle.mission.specs.Faults.{flaw-number, text-layer};
 use crate::flaw::Flaw;
+use crate::flaw::FlawDebug;
 use fault::layer::Layer;
 use fault::refusal::Refusal;
-use crate::flaw::FlawDebug;
 
 // The fault of a line of a text, with its line from 1.
 #[derive(Clone, Copy, Debug)]
@@ -13,7 +13,9 @@ pub struct LineFault {
 
 pub impl Refusal for LineFault as LineRefusal {
     ghost numbered = { λ f. flaw-number (f .flaw) };
+
     ghost layered = { λ f. text-layer };
+
     ghost lined = { λ f. f .line };
 
     fn number(&self) -> u8 {

@@ -15,8 +15,16 @@ impl Mission {
     pub fn new() -> Mission
         ensures { λ r. ⌜ text-of (meaning r) ≡ first-text ⌝ }
     {
-        let condition = Node::Count { key: 0, least: CountThreshold::ZERO };
-        let outline = Outline { counts: 1, abilities: 0, nodes: [condition; 256], len: 1 };
+        let condition = Node::Count {
+            key: 0,
+            least: CountThreshold::ZERO,
+        };
+        let outline = Outline {
+            counts: 1,
+            abilities: 0,
+            nodes: [condition; 256],
+            len: 1,
+        };
         Mission { outline }
     }
 

@@ -1,11 +1,8 @@
 // Missions read from texts and written to them.
 ghost use mathlib.Core.Path.{_≡_};
-ghost use mathlib.Core.List.{_++_};
-ghost use Prim.Native.Nat.{_<_, _≤_};
-ghost use lib.ListN.{length, drop};
 ghost use Rattle.std.specs.Results.{Cases};
-ghost use Rattle.mission.specs.Missions.{meaning, Accepted};
-ghost use Rattle.mission.specs.Texts.{text as text-of, First-fault, Faultless};
+ghost use Rattle.mission.specs.Missions.{meaning, Accepted, Put, Too-long, Own-text};
+ghost use Rattle.mission.specs.Texts.{text as text-of, First-fault};
 ghost use Rattle.mission.specs.declared.mission.Mission.{Mission as AMission};
 use crate::mission::Mission;
 use crate::page_fault::PageFault;
@@ -31,8 +28,8 @@ impl Mission {
     // Puts the mission's text into the page and answers its length; refuses where the page is too short,
     // and leaves it as it was. All past the text stays as found.
     pub fn write(&self, page: &mut [u8]) -> Result<usize, PageFault>
-        ensures outcome { λ r. ⌜ Cases r (λ n. (n ≡ length (text-of (meaning (now (self .entry))))) × (n ≤ length (now (page .entry))) × (now (page .exit) ≡ text-of (meaning (now (self .entry))) ++ drop n (now (page .entry)))) (λ _. (length (now (page .entry)) < length (text-of (meaning (now (self .entry))))) × (now (page .exit) ≡ now (page .entry))) ⌝ }
-        ensures back { λ _. ⌜ Faultless (text-of (meaning (now (self .entry)))) × ((m : AMission) → text-of (meaning m) ≡ text-of (meaning (now (self .entry))) → meaning m ≡ meaning (now (self .entry))) ⌝ }
+        ensures outcome { λ r. ⌜ Cases r (λ n. Put (text-of (meaning (now (self .entry)))) (now (page .entry)) (now (page .exit)) n) (λ _. Too-long (text-of (meaning (now (self .entry)))) (now (page .entry)) × (now (page .exit) ≡ now (page .entry))) ⌝ }
+        ensures back { λ _. ⌜ Own-text (now (self .entry)) ⌝ }
     {
         let mut nothing = [0u8; 0];
         let len = lay(&self.outline, &mut nothing);

@@ -32,13 +32,32 @@ pub enum Target {
 // One node of a mission, without its children, which follow it in preorder.
 #[derive(Clone, Copy)]
 pub enum Node {
-    Group { kind: GroupKind, kids: u8 },
-    Par { kids: u8, need: u8 },
+    Group {
+        kind: GroupKind,
+        kids: u8,
+    },
+    Par {
+        kids: u8,
+        need: u8,
+    },
     Not,
-    Loop { kind: LoopKind, times: u16 },
-    Skill { skill: u8, device: Option<u8>, target: Target },
-    Count { key: u8, least: CountThreshold },
-    Ability { key: u8, least: AbilityThreshold },
+    Loop {
+        kind: LoopKind,
+        times: u16,
+    },
+    Skill {
+        skill: u8,
+        device: Option<u8>,
+        target: Target,
+    },
+    Count {
+        key: u8,
+        least: CountThreshold,
+    },
+    Ability {
+        key: u8,
+        least: AbilityThreshold,
+    },
 }
 
 impl Node {

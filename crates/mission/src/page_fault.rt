@@ -8,7 +8,9 @@ pub struct PageFault;
 
 pub impl Refusal for PageFault as PageRefusal {
     ghost numbered = { λ f. 21 };
+
     ghost layered = { λ f. text-layer };
+
     ghost lined = { λ f. 0 };
 
     fn number(&self) -> u8 {

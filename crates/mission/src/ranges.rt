@@ -22,14 +22,22 @@ use entry::parts::Weight;
 fn byte(z: i32, low: u8, high: u8) -> Result<u8, Flaw>
     ensures { λ r. ⌜ Cases r (λ b. (pos b ≡ z) × (within (pos low) (pos high) z ≡ true)) (λ e. (e ≡ OutOfRange) × (within (pos low) (pos high) z ≡ false)) ⌝ }
 {
-    if low as i32 <= z && z <= high as i32 { Ok(z as u8) } else { Err(Flaw::Range) }
+    if low as i32 <= z && z <= high as i32 {
+        Ok(z as u8)
+    } else {
+        Err(Flaw::Range)
+    }
 }
 
 // The number, where it lies from `low` to `high`.
 pub(crate) fn in_span(z: i32, low: u16, high: u16) -> Result<u16, Flaw>
     ensures { λ r. ⌜ Cases r (λ n. (pos n ≡ z) × (within (pos low) (pos high) z ≡ true)) (λ e. (e ≡ OutOfRange) × (within (pos low) (pos high) z ≡ false)) ⌝ }
 {
-    if low as i32 <= z && z <= high as i32 { Ok(z as u16) } else { Err(Flaw::Range) }
+    if low as i32 <= z && z <= high as i32 {
+        Ok(z as u16)
+    } else {
+        Err(Flaw::Range)
+    }
 }
 
 fn device_of(device: Option<i32>) -> Result<Option<u8>, Flaw>
@@ -68,7 +76,11 @@ fn skill_node(skill: i32, device: Option<i32>, target: RawTarget) -> Result<Node
     let skill = byte(skill, 0, 63)?;
     let device = device_of(device)?;
     let target = target_of(target)?;
-    Ok(Node::Skill { skill, device, target })
+    Ok(Node::Skill {
+        skill,
+        device,
+        target,
+    })
 }
 
 fn count_node(key: i32, least: i32) -> Result<Node, Flaw>
@@ -107,7 +119,11 @@ pub(crate) fn node_of(raw: RawNode) -> Result<Node, Flaw>
             let times = in_span(times, 1, 60_000)?;
             Ok(Node::Loop { kind, times })
         }
-        RawNode::Skill { skill, device, target } => skill_node(skill, device, target),
+        RawNode::Skill {
+            skill,
+            device,
+            target,
+        } => skill_node(skill, device, target),
         RawNode::Count { key, least } => count_node(key, least),
         RawNode::Ability { key, least, over } => ability_node(key, least, over),
     }

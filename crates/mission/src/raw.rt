@@ -24,11 +24,31 @@ pub(crate) enum RawTarget {
 // A node line of its form, with its numbers as they are written, in or out of range.
 #[derive(Clone, Copy)]
 pub(crate) enum RawNode {
-    Group { kind: GroupKind, kids: i32 },
-    Par { kids: i32, need: i32 },
+    Group {
+        kind: GroupKind,
+        kids: i32,
+    },
+    Par {
+        kids: i32,
+        need: i32,
+    },
     Not,
-    Loop { kind: LoopKind, times: i32 },
-    Skill { skill: i32, device: Option<i32>, target: RawTarget },
-    Count { key: i32, least: i32 },
-    Ability { key: i32, least: i32, over: i32 },
+    Loop {
+        kind: LoopKind,
+        times: i32,
+    },
+    Skill {
+        skill: i32,
+        device: Option<i32>,
+        target: RawTarget,
+    },
+    Count {
+        key: i32,
+        least: i32,
+    },
+    Ability {
+        key: i32,
+        least: i32,
+        over: i32,
+    },
 }

@@ -44,7 +44,10 @@ fn next_line(rest: &[u8], line: u32) -> Result<(&[u8], &[u8]), LineFault>
 {
     match cut(rest, b'\n') {
         Some(parts) => Ok(parts),
-        None => Err(LineFault { flaw: Flaw::Form, line }),
+        None => Err(LineFault {
+            flaw: Flaw::Form,
+            line,
+        }),
     }
 }
 
@@ -53,11 +56,24 @@ fn read_head(text: &[u8]) -> Result<&[u8], LineFault>
     ensures { λ r. ⌜ Cases r (λ q. now (text .entry) ≡ head-line tt ++ (10 ∷ now q)) (λ f. (f .line ≡ 1) × Wrong head-line (λ u. true) (first-of (now (text .entry))) (f .flaw)) ⌝ }
 {
     let (head, after) = next_line(text, 1)?;
-    if same(head, b"mission=1") { Ok(after) } else { Err(LineFault { flaw: Flaw::Form, line: 1 }) }
+    if same(head, b"mission=1") {
+        Ok(after)
+    } else {
+        Err(LineFault {
+            flaw: Flaw::Form,
+            line: 1,
+        })
+    }
 }
 
 // The number that the next line declares, and what follows it.
-fn read_number<'a>(rest: &'a [u8], line: u32, name: &[u8], low: u16, high: u16) -> Result<(u16, &'a [u8]), LineFault>
+fn read_number<'a>(
+    rest: &'a [u8],
+    line: u32,
+    name: &[u8],
+    low: u16,
+    high: u16,
+) -> Result<(u16, &'a [u8]), LineFault>
     requires { ⌜ plain (now name) ≡ true ⌝ }
     ensures { λ r. ⌜ Cases r (λ p. (now (rest .entry) ≡ number-field (now (name .entry)) (pos (p .0)) ++ (10 ∷ now (p .1))) × (within (pos low) (pos high) (pos (p .0)) ≡ true)) (λ f. (f .line ≡ line) × Wrong (number-field (now (name .entry))) (within (pos low) (pos high)) (first-of (now (rest .entry))) (f .flaw)) ⌝ }
 {
@@ -93,9 +109,17 @@ fn read_nodes(start: &[u8], counts: u8, abilities: u8, len: usize) -> Result<Out
         rest = after;
     }
     if rest.len() > 0 {
-        return Err(LineFault { flaw: Flaw::Form, line: len as u32 + NODES_BEGIN });
+        return Err(LineFault {
+            flaw: Flaw::Form,
+            line: len as u32 + NODES_BEGIN,
+        });
     }
-    Ok(Outline { counts, abilities, nodes, len })
+    Ok(Outline {
+        counts,
+        abilities,
+        nodes,
+        len,
+    })
 }
 
 // The outline that the text writes, or its first flaw.

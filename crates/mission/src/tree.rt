@@ -19,6 +19,9 @@ use crate::outline::Outline;
 use crate::reading::NODES_BEGIN;
 use crate::tree_fault::TreeFault;
 
+// The deepest level that a node may have.
+const LEVELS: u8 = 16;
+
 // Is the key of the target not below its declared number?
 fn target_beyond(outline: &Outline, target: Target) -> bool
     ensures { λ r. ⌜ Decides r (Target-beyond (shape (now (outline .entry))) target) ⌝ }
@@ -81,7 +84,13 @@ fn leaves_open(outline: &Outline, node: Node, at: usize, alone: bool) -> bool
 }
 
 // Judges one node, which stands at an open place of this level.
-fn check_node(outline: &Outline, seen: &[bool; 64], at: usize, level: u8, alone: bool) -> Result<(), Breach>
+fn check_node(
+    outline: &Outline,
+    seen: &[bool; 64],
+    at: usize,
+    level: u8,
+    alone: bool,
+) -> Result<(), Breach>
     requires reading { ⌜ Reading (shape (now outline)) (now seen) at 1 level alone ⌝ }
     requires within { ⌜ at < now outline .len ⌝ }
     ensures { λ r. ⌜ Judged (shape (now (outline .entry))) at r ⌝ }
@@ -90,7 +99,7 @@ fn check_node(outline: &Outline, seen: &[bool; 64], at: usize, level: u8, alone:
     if leaves_open(outline, node, at, alone) {
         return Err(Breach::Place);
     }
-    if level > 16 {
+    if level > LEVELS {
         return Err(Breach::Level);
     }
     if named_before(seen, node) {
@@ -113,14 +122,23 @@ fn only_place(kids: u8, alone: bool) -> bool
 }
 
 // Reads the node at `at` and all below it, and answers the place after them.
-fn read_node(outline: &Outline, seen: &mut [bool; 64], at: usize, level: u8, alone: bool) -> Result<usize, TreeFault>
+fn read_node(
+    outline: &Outline,
+    seen: &mut [bool; 64],
+    at: usize,
+    level: u8,
+    alone: bool,
+) -> Result<usize, TreeFault>
     requires reading { ⌜ Reading (shape (now outline)) (now seen) at 1 level alone ⌝ }
     requires within { ⌜ at < now outline .len ⌝ }
     requires level { ⌜ level ≤ 17 ⌝ }
     ensures { λ r. ⌜ Cases r (λ end. (at < end) × Filled (shape (now (outline .entry))) (now (seen .exit)) at 1 end) (λ e. Refused (shape (now (outline .entry))) e) ⌝ }
 {
     if let Err(breach) = check_node(outline, seen, at, level, alone) {
-        return Err(TreeFault::Node { breach, line: at as u32 + NODES_BEGIN });
+        return Err(TreeFault::Node {
+            breach,
+            line: at as u32 + NODES_BEGIN,
+        });
     }
     let node = outline.node(at);
     note(seen, node);
@@ -128,7 +146,14 @@ fn read_node(outline: &Outline, seen: &mut [bool; 64], at: usize, level: u8, alo
 }
 
 // Reads so many nodes, one after the other.
-fn read_run(outline: &Outline, seen: &mut [bool; 64], at: usize, kids: u8, level: u8, alone: bool) -> Result<usize, TreeFault>
+fn read_run(
+    outline: &Outline,
+    seen: &mut [bool; 64],
+    at: usize,
+    kids: u8,
+    level: u8,
+    alone: bool,
+) -> Result<usize, TreeFault>
     requires reading { ⌜ Reading (shape (now outline)) (now seen) at kids level alone ⌝ }
     requires begun { ⌜ 0 < at ⌝ }
     requires level { ⌜ level ≤ 17 ⌝ }
@@ -148,7 +173,10 @@ pub(crate) fn judge(outline: &Outline) -> Result<(), TreeFault>
     let mut seen = [false; 64];
     let end = read_node(outline, &mut seen, 0, 1, true)?;
     if end < outline.len {
-        return Err(TreeFault::Node { breach: Breach::Place, line: end as u32 + NODES_BEGIN });
+        return Err(TreeFault::Node {
+            breach: Breach::Place,
+            line: end as u32 + NODES_BEGIN,
+        });
     }
     Ok(())
 }

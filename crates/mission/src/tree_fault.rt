@@ -2,12 +2,12 @@ ghost use mathlib.Core.Path.{_≡_};
 ghost use Rattle.mission.specs.Faults.{tree-number, tree-layer, tree-line};
 ghost use Rattle.mission.specs.declared.tree_fault.TreeFault.the-variants.{Line as ALine};
 use crate::breach::Breach;
+use crate::breach::BreachDebug;
 use crate::line_fault::LineFault;
+use crate::line_fault::LineFaultDebug;
 use crate::line_fault::LineRefusal;
 use fault::layer::Layer;
 use fault::refusal::Refusal;
-use crate::breach::BreachDebug;
-use crate::line_fault::LineFaultDebug;
 
 // The fault of a mission text: the text layer's, handed up whole, or a node that breaks the law of the
 // tree, with the line that it stands on.
@@ -27,7 +27,9 @@ pub impl From<LineFault> for TreeFault as LineIntoTree {
 
 pub impl Refusal for TreeFault as TreeRefusal {
     ghost numbered = { tree-number };
+
     ghost layered = { tree-layer };
+
     ghost lined = { tree-line };
 
     fn number(&self) -> u8 {

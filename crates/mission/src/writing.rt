@@ -161,7 +161,11 @@ fn put_node(page: &mut [u8], at: usize, node: Node) -> usize
         Node::Par { kids, need } => put_par(page, at, kids, need),
         Node::Not => put(page, at, b"node=not\n"),
         Node::Loop { kind, times } => put_loop(page, at, kind, times),
-        Node::Skill { skill, device, target } => put_skill(page, at, skill, device, target),
+        Node::Skill {
+            skill,
+            device,
+            target,
+        } => put_skill(page, at, skill, device, target),
         Node::Count { key, least } => put_count(page, at, key, least),
         Node::Ability { key, least } => put_ability(page, at, key, least),
     }

@@ -14,9 +14,10 @@ front t page rest more n m e p l = ap (take n) (take-at page more m l ∙ p) ∙
 pub returns : need.returns
 returns c =
     let w = c .in-Ok .ensures tt .outcome in
-    let long : length (c .write .last .page) ≡ c .in-Continue-page .page .len = search needs in
-    (c .read .last .self,
-     c .in-rest .ensures tt .outcome .0,
-     c .truncate .ensures .items ∙ front _ (c .write .last .page) _ _ (c .in-Ok .len) (c .in-Continue-page .page .len) (w .0) (w .2) long,
-     ap length (c .nodes .ensures .value),
-     c .skills .ensures .count)
+    let long : length (c .write .last .page) ≡ c .in-Continue-page .page .len = search needs in (
+      c .read .last .self,
+      c .in-rest .ensures tt .outcome .0,
+      c .truncate .ensures .items ∙ front _ (c .write .last .page) _ _ (c .in-Ok .len) (c .in-Continue-page .page .len) (w .0) (w .2) long,
+      ap length (c .nodes .ensures .value),
+      c .skills .ensures .count,
+    )

@@ -15,8 +15,9 @@ loop-i-again c =
     let at = c .args .at in
     let step = laid-more (c .loop-i .page) at i bs (omega arith) in
     elim (c .if-at-i .came) [
-        then-at-i w ↦ ap (λ p. laid p (at + (i + 1)) (drop (i + 1) bs)) (w .page-is) ∙ sym step ∙ c .loop-i .inv
-      | else-at-i w ↦ ap (λ p. laid p (at + (i + 1)) (drop (i + 1) bs)) (w .page-is ∙ sym (set-past (c .loop-i .page) (at + i) (getD bs i 0) (w .if-at-i .left))) ∙ sym step ∙ c .loop-i .inv ]
+      | then-at-i w ↦ ap (λ p. laid p (at + (i + 1)) (drop (i + 1) bs)) (w .page-is) ∙ sym step ∙ c .loop-i .inv
+      | else-at-i w ↦ ap (λ p. laid p (at + (i + 1)) (drop (i + 1) bs)) (w .page-is ∙ sym (set-past (c .loop-i .page) (at + i) (getD bs i 0) (w .if-at-i .left))) ∙ sym step ∙ c .loop-i .inv
+    ]
 
 pub returns : need.returns
 returns c = record { place = refl; page = sym (laid-end (c .loop-i .page) _ (c .loop-i .i) (c .args .bytes .now) (omega arith)) ∙ c .loop-i .inv }

@@ -15,6 +15,6 @@ returns c =
     let label = c .args .label .now in
     record {
       page = subst (λ x. Laid (c .args .page .now) (c .args .at) (label ++ numeral x) (c .put-numeral .last .page) (c .put-numeral .result)) (toZ-ofZ w32 z (c .fits .z))
-        (laid-then label (numeral (toZ w32 (ofZ w32 z))) (c .put-next .ensures) (c .put-numeral .ensures .page));
+          (laid-then label (numeral (toZ w32 (ofZ w32 z))) (c .put-next .ensures) (c .put-numeral .ensures .page));
       short = let a = c .put-next .ensures .place in let b = c .put-numeral .ensures .short in omega arith;
     }

@@ -46,7 +46,7 @@ returns-then-z-lt0 c =
     let k = length-take (11 - i) (drop i row) in
     record {
       page = subst (λ bs. Laid (c .args .page .now) (c .args .at) bs (c .put-then-z-lt0 .last .page) (c .put-then-z-lt0 .result)) (ap (λ bs. 45 ∷ bs) p ∙ sym (numeral-minus z lt))
-        (laid-then (45 ∷ []) (take (11 - i) (drop i row)) (c .put-next .ensures) (c .put-then-z-lt0 .ensures));
+          (laid-then (45 ∷ []) (take (11 - i) (drop i row)) (c .put-next .ensures) (c .put-then-z-lt0 .ensures));
       short = let a = c .put-next .ensures .place in let b = c .put-then-z-lt0 .ensures .place in omega arith;
     }
 

@@ -9,11 +9,12 @@ use Rattle.text.proofs.Numerals.{digits-text, natural-above, digits-step}
 use Rattle.mission.proofs.page.spell.Needs as need
 
 pub loop-left-holds : need.loop-left-holds
-loop-left-holds c =
-    (omega arith,
-     c .told-row,
-     (let l = length-digitsOf-le 10 10 (c .args .n) (omega arith) (omega arith) in omega arith),
-     ap (λ xs. digits-text (c .args .n) ++ xs) (drop-all 11 (c .args .row .now) (omega arith)) ∙ append-nil _)
+loop-left-holds c = (
+  omega arith,
+  c .told-row,
+  (let l = length-digitsOf-le 10 10 (c .args .n) (omega arith) (omega arith) in omega arith),
+  ap (λ xs. digits-text (c .args .n) ++ xs) (drop-all 11 (c .args .row .now) (omega arith)) ∙ append-nil _,
+)
 
 pub sub-i : need.sub-i
 sub-i c = let l = length-digitsOf-step 10 (c .loop-left .left) (omega arith) (c .loop-left-test .taken) in omega arith
@@ -24,15 +25,16 @@ loop-left-again c =
     let n = c .loop-left .left in
     let row = c .loop-left .row in
     let l = length-digitsOf-step 10 n (omega arith) (c .loop-left-test .taken) in
-    let back : i - 1 + 1 ≡ i = omega arith in
-    (omega arith,
-     length-set row (i - 1) _ ∙ c .loop-left .inv .1,
-     omega arith,
-     ap (λ xs. digits-text (n / 10) ++ xs) (drop-set row (i - 1) (48 + n % 10) (omega arith))
-     ∙ ap (λ k. digits-text (n / 10) ++ ((48 + n % 10) ∷ drop k row)) back
-     ∙ sym (append-assoc (digits-text (n / 10)) ((48 + n % 10) ∷ []) (drop i row))
-     ∙ ap (λ xs. xs ++ drop i row) (sym (digits-step n (c .loop-left-test .taken)))
-     ∙ c .loop-left .inv .3)
+    let back : i - 1 + 1 ≡ i = omega arith in (
+      omega arith,
+      length-set row (i - 1) _ ∙ c .loop-left .inv .1,
+      omega arith,
+      ap (λ xs. digits-text (n / 10) ++ xs) (drop-set row (i - 1) (48 + n % 10) (omega arith))
+          ∙ ap (λ k. digits-text (n / 10) ++ ((48 + n % 10) ∷ drop k row)) back
+          ∙ sym (append-assoc (digits-text (n / 10)) ((48 + n % 10) ∷ []) (drop i row))
+          ∙ ap (λ xs. xs ++ drop i row) (sym (digits-step n (c .loop-left-test .taken)))
+          ∙ c .loop-left .inv .3,
+    )
 
 pub returns : need.returns
 unfolding digits-text

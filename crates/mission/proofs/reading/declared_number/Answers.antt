@@ -22,8 +22,8 @@ returns-in-Some c =
     judged-number (c .args .name .now) (c .args .text .now) lo hi z (c .in-span .result) (omega arith)
     (c .in-Some .ensures tt ∙ ap (one-ended (c .args .name .now)) (c .of .ensures .rest))
     (subst
-     (λ x. Cases (c .in-span .result) (λ n. (pos n ≡ x) × (within (pos lo) (pos hi) x ≡ true)) (λ e. (e ≡ Range) × (within (pos lo) (pos hi) x ≡ false)))
-     (toZ-ofZ w32 z fit) (c .in-span .ensures))
+    (λ x. Cases (c .in-span .result) (λ n. (pos n ≡ x) × (within (pos lo) (pos hi) x ≡ true)) (λ e. (e ≡ Range) × (within (pos lo) (pos hi) x ≡ false)))
+    (toZ-ofZ w32 z fit) (c .in-span .ensures))
 
 pub returns-in-None : need.returns-in-None
 returns-in-None c =

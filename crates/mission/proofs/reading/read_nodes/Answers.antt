@@ -18,15 +18,19 @@ loop-i-again c =
     let l = c .in-Continue-text .text .now in
     let after = c .in-Continue-text .after .now in
     let long = c .loop-i .inv .0 in
-    let got = c .in-Continue-nodes .ensures tt in
-    (length-set nodes i n ∙ long,
-     subst (λ ns. Taken start ns after) (sym (take-more-set nodes i n (omega arith)))
-     (taken-push start (take i nodes) n (c .loop-i .rest .now) l after (c .loop-i .inv .1) (parted-sound 10 (c .loop-i .rest .now) (l, after) (c .in-Continue-text .ensures tt)) (got .0) (got .1)))
+    let got = c .in-Continue-nodes .ensures tt in (
+      length-set nodes i n ∙ long,
+      subst (λ ns. Taken start ns after) (sym (take-more-set nodes i n (omega arith)))
+          (taken-push start (take i nodes) n (c .loop-i .rest .now) l after (c .loop-i .inv .1) (parted-sound 10 (c .loop-i .rest .now) (l, after) (c .in-Continue-text .ensures tt)) (got .0) (got .1)),
+    )
 
 pub returns : need.returns
 returns c =
     let all : c .loop-i .i ≡ c .args .len = omega arith in
-    let none = nil-from-length (c .loop-i .rest .now) (omega arith) in
-    (refl, refl, refl,
-     subst (λ i. Taken (c .args .start .now) (take i (c .loop-i .nodes)) []) all
-     (subst (λ r. Taken (c .args .start .now) (take (c .loop-i .i) (c .loop-i .nodes)) r) none (c .loop-i .inv .1)))
+    let none = nil-from-length (c .loop-i .rest .now) (omega arith) in (
+      refl,
+      refl,
+      refl,
+      subst (λ i. Taken (c .args .start .now) (take i (c .loop-i .nodes)) []) all
+          (subst (λ r. Taken (c .args .start .now) (take (c .loop-i .i) (c .loop-i .nodes)) r) none (c .loop-i .inv .1)),
+    )

@@ -15,10 +15,13 @@ pub read-node-read-run-requires : need.read-node-read-run-requires
 read-node-read-run-requires t c κs =
     let o = c .args .outline .now in
     let l = shape-long o in
-    let small = level-small (shape o) (c .pre .reading) (c .in-rest .ensures tt) in
-    (search needs,
-     (into-run (shape o) (c .node-node .result) (c .pre .reading) (let w = c .pre .within in omega arith) (c .in-rest .ensures tt) (c .node-node .ensures) (c .note .ensures) (c .kids .ensures),
-      (omega arith, omega arith)))
+    let small = level-small (shape o) (c .pre .reading) (c .in-rest .ensures tt) in (
+      search needs,
+      (
+        into-run (shape o) (c .node-node .result) (c .pre .reading) (let w = c .pre .within in omega arith) (c .in-rest .ensures tt) (c .node-node .ensures) (c .note .ensures) (c .kids .ensures),
+        (omega arith, omega arith),
+      ),
+    )
 
 pub read-node-returns : need.read-node-returns
 read-node-returns t c =
@@ -31,10 +34,13 @@ read-run-read-node-requires t c κs =
     let o = c .args .outline .now in
     let l = shape-long o in
     let some : 0 < c .args .kids = omega (arith, c .if-kids-eq0 .left) in
-    let left = node-left (shape o) (c .pre .reading) some (c .pre .begun) in
-    (search needs,
-     (subst (λ a. Reading (shape o) (c .args .seen .now) (c .args .at) 1 (c .args .level) a) (sym (c .only-place .ensures)) (run-first (shape o) (c .pre .reading) some),
-      (omega arith, c .pre .level)))
+    let left = node-left (shape o) (c .pre .reading) some (c .pre .begun) in (
+      search needs,
+      (
+        subst (λ a. Reading (shape o) (c .args .seen .now) (c .args .at) 1 (c .args .level) a) (sym (c .only-place .ensures)) (run-first (shape o) (c .pre .reading) some),
+        (omega arith, c .pre .level),
+      ),
+    )
 
 pub read-run-read-run-requires : need.read-run-read-run-requires
 read-run-read-run-requires t c κs =

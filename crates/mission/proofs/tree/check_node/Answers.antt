@@ -26,55 +26,60 @@ pub returns-then-leaves-open : need.returns-then-leaves-open
 returns-then-leaves-open c =
     let o = c .args .outline .now in
     let i = c .args .at in
-    let n = c .node-node .result in
-    (unplaced (shape o) n (c .pre .reading) (c .node-node .ensures) (open-test o i (c .args .alone) n true (c .if-leaves-open .ensures tt)),
-     none-below (shape o) i 3 (λ h. absurd (omega arith)) (λ h. absurd (omega arith)) (λ h. absurd (omega arith)) (λ h. absurd (omega arith)) (λ h. absurd (omega arith)))
+    let n = c .node-node .result in (
+      unplaced (shape o) n (c .pre .reading) (c .node-node .ensures) (open-test o i (c .args .alone) n true (c .if-leaves-open .ensures tt)),
+      none-below (shape o) i 3 (λ h. absurd (omega arith)) (λ h. absurd (omega arith)) (λ h. absurd (omega arith)) (λ h. absurd (omega arith)) (λ h. absurd (omega arith)),
+    )
 
-pub returns-then-level-gt16 : need.returns-then-level-gt16
-returns-then-level-gt16 c =
+pub returns-then-level-gt-LEVELS : need.returns-then-level-gt-LEVELS
+returns-then-level-gt-LEVELS c =
     let o = c .args .outline .now in
     let i = c .args .at in
-    let n = c .node-node .result in
-    (deep (shape o) (c .pre .reading) (c .if-level-gt16 .taken),
-     none-below (shape o) i 4
-     (λ h. placed (shape o) n (c .pre .reading) (c .node-node .ensures) (open-test o i (c .args .alone) n false (c .if-leaves-open .ensures tt)))
-     (λ h. absurd (omega arith)) (λ h. absurd (omega arith)) (λ h. absurd (omega arith)) (λ h. absurd (omega arith)))
+    let n = c .node-node .result in (
+      deep (shape o) (c .pre .reading) (c .if-level-gt-LEVELS .taken),
+      none-below (shape o) i 4
+          (λ h. placed (shape o) n (c .pre .reading) (c .node-node .ensures) (open-test o i (c .args .alone) n false (c .if-leaves-open .ensures tt)))
+          (λ h. absurd (omega arith)) (λ h. absurd (omega arith)) (λ h. absurd (omega arith)) (λ h. absurd (omega arith)),
+    )
 
 pub returns-then-named-before : need.returns-then-named-before
 returns-then-named-before c =
     let o = c .args .outline .now in
     let i = c .args .at in
-    let n = c .node-node .result in
-    (again (shape o) n (o .«in_range») (c .pre .reading) (c .node-node .ensures) (sym (c .if-named-before .ensures tt)),
-     none-below (shape o) i 5
-     (λ h. placed (shape o) n (c .pre .reading) (c .node-node .ensures) (open-test o i (c .args .alone) n false (c .if-leaves-open .ensures tt)))
-     (λ h. shallow (shape o) (c .pre .reading) (c .if-level-gt16 .left))
-     (λ h. absurd (omega arith)) (λ h. absurd (omega arith)) (λ h. absurd (omega arith)))
+    let n = c .node-node .result in (
+      again (shape o) n (o .«in_range») (c .pre .reading) (c .node-node .ensures) (sym (c .if-named-before .ensures tt)),
+      none-below (shape o) i 5
+          (λ h. placed (shape o) n (c .pre .reading) (c .node-node .ensures) (open-test o i (c .args .alone) n false (c .if-leaves-open .ensures tt)))
+          (λ h. shallow (shape o) (c .pre .reading) (c .if-level-gt-LEVELS .left))
+          (λ h. absurd (omega arith)) (λ h. absurd (omega arith)) (λ h. absurd (omega arith)),
+    )
 
 pub returns-then-key-beyond : need.returns-then-key-beyond
 returns-then-key-beyond c =
     let o = c .args .outline .now in
     let i = c .args .at in
-    let n = c .node-node .result in
-    (subst (Beyond (shape o)) (c .node-node .ensures) (c .if-key-beyond .ensures tt .0 refl),
-     none-below (shape o) i 6
-     (λ h. placed (shape o) n (c .pre .reading) (c .node-node .ensures) (open-test o i (c .args .alone) n false (c .if-leaves-open .ensures tt)))
-     (λ h. shallow (shape o) (c .pre .reading) (c .if-level-gt16 .left))
-     (λ h. once (shape o) n (o .«in_range») (c .pre .reading) (c .node-node .ensures) (sym (c .if-named-before .ensures tt)))
-     (λ h. absurd (omega arith)) (λ h. absurd (omega arith)))
+    let n = c .node-node .result in (
+      subst (Beyond (shape o)) (c .node-node .ensures) (c .if-key-beyond .ensures tt .0 refl),
+      none-below (shape o) i 6
+          (λ h. placed (shape o) n (c .pre .reading) (c .node-node .ensures) (open-test o i (c .args .alone) n false (c .if-leaves-open .ensures tt)))
+          (λ h. shallow (shape o) (c .pre .reading) (c .if-level-gt-LEVELS .left))
+          (λ h. once (shape o) n (o .«in_range») (c .pre .reading) (c .node-node .ensures) (sym (c .if-named-before .ensures tt)))
+          (λ h. absurd (omega arith)) (λ h. absurd (omega arith)),
+    )
 
 pub returns-then-needs-too-many : need.returns-then-needs-too-many
 returns-then-needs-too-many c =
     let o = c .args .outline .now in
     let i = c .args .at in
-    let n = c .node-node .result in
-    (subst Overneeds (c .node-node .ensures) (c .if-needs-too-many .ensures tt .0 refl),
-     none-below (shape o) i 7
-     (λ h. placed (shape o) n (c .pre .reading) (c .node-node .ensures) (open-test o i (c .args .alone) n false (c .if-leaves-open .ensures tt)))
-     (λ h. shallow (shape o) (c .pre .reading) (c .if-level-gt16 .left))
-     (λ h. once (shape o) n (o .«in_range») (c .pre .reading) (c .node-node .ensures) (sym (c .if-named-before .ensures tt)))
-     (λ h b. not-from-decides _ (c .key-beyond .ensures) (c .if-key-beyond .left) (subst (Beyond (shape o)) (sym (c .node-node .ensures)) b))
-     (λ h. absurd (omega arith)))
+    let n = c .node-node .result in (
+      subst Overneeds (c .node-node .ensures) (c .if-needs-too-many .ensures tt .0 refl),
+      none-below (shape o) i 7
+          (λ h. placed (shape o) n (c .pre .reading) (c .node-node .ensures) (open-test o i (c .args .alone) n false (c .if-leaves-open .ensures tt)))
+          (λ h. shallow (shape o) (c .pre .reading) (c .if-level-gt-LEVELS .left))
+          (λ h. once (shape o) n (o .«in_range») (c .pre .reading) (c .node-node .ensures) (sym (c .if-named-before .ensures tt)))
+          (λ h b. not-from-decides _ (c .key-beyond .ensures) (c .if-key-beyond .left) (subst (Beyond (shape o)) (sym (c .node-node .ensures)) b))
+          (λ h. absurd (omega arith)),
+    )
 
 pub returns : need.returns
 returns c =
@@ -82,10 +87,10 @@ returns c =
     let i = c .args .at in
     let n = c .node-node .result in
     λ b.
-      none-below (shape o) i 8
-      (λ h. placed (shape o) n (c .pre .reading) (c .node-node .ensures) (open-test o i (c .args .alone) n false (c .if-leaves-open .ensures tt)))
-      (λ h. shallow (shape o) (c .pre .reading) (c .if-level-gt16 .left))
-      (λ h. once (shape o) n (o .«in_range») (c .pre .reading) (c .node-node .ensures) (sym (c .if-named-before .ensures tt)))
-      (λ h b. not-from-decides _ (c .key-beyond .ensures) (c .if-key-beyond .left) (subst (Beyond (shape o)) (sym (c .node-node .ensures)) b))
-      (λ h b. not-from-decides _ (c .needs-too-many .ensures) (c .if-needs-too-many .left) (subst Overneeds (sym (c .node-node .ensures)) b))
-      b (below-eight b)
+    none-below (shape o) i 8
+    (λ h. placed (shape o) n (c .pre .reading) (c .node-node .ensures) (open-test o i (c .args .alone) n false (c .if-leaves-open .ensures tt)))
+    (λ h. shallow (shape o) (c .pre .reading) (c .if-level-gt-LEVELS .left))
+    (λ h. once (shape o) n (o .«in_range») (c .pre .reading) (c .node-node .ensures) (sym (c .if-named-before .ensures tt)))
+    (λ h b. not-from-decides _ (c .key-beyond .ensures) (c .if-key-beyond .left) (subst (Beyond (shape o)) (sym (c .node-node .ensures)) b))
+    (λ h b. not-from-decides _ (c .needs-too-many .ensures) (c .if-needs-too-many .left) (subst Overneeds (sym (c .node-node .ensures)) b))
+    b (below-eight b)

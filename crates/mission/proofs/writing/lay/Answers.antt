@@ -32,11 +32,12 @@ loop-i-again c =
     let o = c .args .outline .now in
     let ns = shape o .nodes in
     let i = c .loop-i .i in
-    let l = shape-long o in
-    (subst (λ bs. Laid (c .put-head-at .last .page) (c .put-head-at .result) bs (c .put-node-at .last .page) (c .put-node-at .result))
-     (more ns i (c .node .result) (omega arith) (c .node .ensures))
-     (laid-then (ended (map node-line (take i ns))) (node-line (c .node .result) ++ end) (c .loop-i .inv .0) (c .put-node-at .ensures .page)),
-     (let s = c .put-node-at .ensures .short in let b = c .loop-i .inv .1 in omega arith))
+    let l = shape-long o in (
+      subst (λ bs. Laid (c .put-head-at .last .page) (c .put-head-at .result) bs (c .put-node-at .last .page) (c .put-node-at .result))
+          (more ns i (c .node .result) (omega arith) (c .node .ensures))
+          (laid-then (ended (map node-line (take i ns))) (node-line (c .node .result) ++ end) (c .loop-i .inv .0) (c .put-node-at .ensures .page)),
+      (let s = c .put-node-at .ensures .short in let b = c .loop-i .inv .1 in omega arith),
+    )
 
 pub returns : need.returns
 returns c =
@@ -46,8 +47,8 @@ returns c =
     let heads = head-line tt ∷ counts-line (pos (o .counts)) ∷ abilities-line (pos (o .abilities)) ∷ nodes-line (pos (o .len)) ∷ [] in
     let all : take (c .loop-i .i) ns ≡ ns = take-all (c .loop-i .i) ns (omega arith) in
     let is : ended heads ++ ended (map node-line (take (c .loop-i .i) ns)) ≡ text (shape o) =
-          ap (λ xs. ended heads ++ ended (map node-line xs)) all
-          ∙ sym (append-nil _) ∙ append-assoc (ended heads) (ended (map node-line ns)) [] ∙ ended-append heads (map node-line ns) [] ∙ append-nil _
-          ∙ ap (λ n. ended (lines (o .counts) (o .abilities) n ns)) (sym l) in
+    ap (λ xs. ended heads ++ ended (map node-line xs)) all
+    ∙ sym (append-nil _) ∙ append-assoc (ended heads) (ended (map node-line ns)) [] ∙ ended-append heads (map node-line ns) [] ∙ append-nil _
+    ∙ ap (λ n. ended (lines (o .counts) (o .abilities) n ns)) (sym l) in
     subst (λ bs. Laid (c .args .page .now) 0 bs (c .loop-i .page) (c .loop-i .at)) is
     (laid-then (ended heads) (ended (map node-line (take (c .loop-i .i) ns))) (c .put-head-at .ensures .page) (c .loop-i .inv .0))

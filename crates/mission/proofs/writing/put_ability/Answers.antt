@@ -15,18 +15,18 @@ returns c =
     let least = c .args .least .least in
     record {
       page =
-        laid-then (codes "node=ability key=" ++ numeral (pos (c .args .key))) _ (c .put-natural-at .ensures .page)
-        (laid-then (codes " least=" ++ numeral least) _
+          laid-then (codes "node=ability key=" ++ numeral (pos (c .args .key))) _ (c .put-natural-at .ensures .page)
+          (laid-then (codes " least=" ++ numeral least) _
           (subst (λ z. Laid (c .put-natural-at .last .page) (c .put-natural-at .result) (codes " least=" ++ numeral z) (c .put-number-at .last .page) (c .put-number-at .result))
-            (same-least (c .least .result) least (search needs) (c .least .ensures)) (c .put-number-at .ensures .page))
-        (laid-then (codes " over=" ++ numeral (pos (c .args .least .over))) (10 ∷ [])
+          (same-least (c .least .result) least (search needs) (c .least .ensures)) (c .put-number-at .ensures .page))
+          (laid-then (codes " over=" ++ numeral (pos (c .args .least .over))) (10 ∷ [])
           (subst (λ n. Laid (c .put-number-at .last .page) (c .put-number-at .result) (codes " over=" ++ numeral (pos n)) (c .put-natural-at-2 .last .page) (c .put-natural-at-2 .result))
-            (c .over .ensures) (c .put-natural-at-2 .ensures .page))
+          (c .over .ensures) (c .put-natural-at-2 .ensures .page))
           (c .put .ensures)));
       short =
-        let a = c .put-natural-at .ensures .short in
-        let b = c .put-number-at .ensures .short in
-        let d = c .put-natural-at-2 .ensures .short in
-        let e = c .put .ensures .place in
-        omega arith;
+          let a = c .put-natural-at .ensures .short in
+          let b = c .put-number-at .ensures .short in
+          let d = c .put-natural-at-2 .ensures .short in
+          let e = c .put .ensures .place in
+          omega arith;
     }

@@ -15,14 +15,14 @@ returns c =
     let least = c .args .least .least in
     record {
       page =
-        laid-then (codes "node=count key=" ++ numeral (pos (c .args .key))) _ (c .put-natural-at .ensures .page)
-        (laid-then (codes " least=" ++ numeral least) (10 ∷ [])
+          laid-then (codes "node=count key=" ++ numeral (pos (c .args .key))) _ (c .put-natural-at .ensures .page)
+          (laid-then (codes " least=" ++ numeral least) (10 ∷ [])
           (subst (λ z. Laid (c .put-natural-at .last .page) (c .put-natural-at .result) (codes " least=" ++ numeral z) (c .put-number-at .last .page) (c .put-number-at .result))
-            (same-least (c .least .result) least (search needs) (c .least .ensures)) (c .put-number-at .ensures .page))
+          (same-least (c .least .result) least (search needs) (c .least .ensures)) (c .put-number-at .ensures .page))
           (c .put .ensures));
       short =
-        let a = c .put-natural-at .ensures .short in
-        let b = c .put-number-at .ensures .short in
-        let e = c .put .ensures .place in
-        omega arith;
+          let a = c .put-natural-at .ensures .short in
+          let b = c .put-number-at .ensures .short in
+          let e = c .put .ensures .place in
+          omega arith;
     }

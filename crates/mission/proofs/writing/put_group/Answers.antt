@@ -25,13 +25,13 @@ returns c =
     let kind = c .group-field .ensures in
     record {
       page =
-        laid-then (kind-field (KGroup (c .args .kind))) _ (subst (λ bs. Laid (c .args .page .now) (c .args .at) bs (c .put-at .last .page) (c .put-at .result)) kind (c .put-at .ensures))
-        (laid-then (codes " kids=" ++ numeral (pos (c .args .kids))) (10 ∷ []) (c .put-natural-at .ensures .page) (c .put .ensures));
+          laid-then (kind-field (KGroup (c .args .kind))) _ (subst (λ bs. Laid (c .args .page .now) (c .args .at) bs (c .put-at .last .page) (c .put-at .result)) kind (c .put-at .ensures))
+          (laid-then (codes " kids=" ++ numeral (pos (c .args .kids))) (10 ∷ []) (c .put-natural-at .ensures .page) (c .put .ensures));
       short =
-        let a = c .put-at .ensures .place in
-        let l = group-short (c .args .kind) in
-        let k = ap length kind in
-        let b = c .put-natural-at .ensures .short in
-        let e = c .put .ensures .place in
-        omega arith;
+          let a = c .put-at .ensures .place in
+          let l = group-short (c .args .kind) in
+          let k = ap length kind in
+          let b = c .put-natural-at .ensures .short in
+          let e = c .put .ensures .place in
+          omega arith;
     }

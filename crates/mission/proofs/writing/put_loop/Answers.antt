@@ -17,9 +17,9 @@ returns c =
     let kind = kind-field (KLoop (c .args .kind)) in
     record {
       page =
-        subst (λ bs. Laid (c .args .page .now) (c .args .at) bs (c .put .last .page) (c .put .result))
-        (append-assoc (kind ++ codes " times=") times (10 ∷ []) ∙ append-assoc kind (codes " times=") (times ++ (10 ∷ [])))
-        (laid-then ((kind ++ codes " times=") ++ times) (10 ∷ [])
+          subst (λ bs. Laid (c .args .page .now) (c .args .at) bs (c .put .last .page) (c .put .result))
+          (append-assoc (kind ++ codes " times=") times (10 ∷ []) ∙ append-assoc kind (codes " times=") (times ++ (10 ∷ [])))
+          (laid-then ((kind ++ codes " times=") ++ times) (10 ∷ [])
           (subst (λ l. Laid (c .args .page .now) (c .args .at) (l ++ times) (c .put-natural-at .last .page) (c .put-natural-at .result)) label (c .put-natural-at .ensures .page))
           (c .put .ensures));
       short = let a = c .put-natural-at .ensures .short in let e = c .put .ensures .place in omega arith;

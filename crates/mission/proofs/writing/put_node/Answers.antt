@@ -27,7 +27,7 @@ returns-in-Par c =
 pub returns-in-Skill : need.returns-in-Skill
 returns-in-Skill c =
     let fs =
-        number-field (codes "skill") (pos (c .in-Skill .skill)) ∷ field (codes "device") (or-none (mapped pos (c .in-Skill .device))) ∷ target-fields (raw-target (c .in-Skill .target)) in
+    number-field (codes "skill") (pos (c .in-Skill .skill)) ∷ field (codes "device") (or-none (mapped pos (c .in-Skill .device))) ∷ target-fields (raw-target (c .in-Skill .target)) in
     record { page = whole _ _ _ _ _ _ (kind-field KSkill) fs (c .in-Skill .is) (line-pieces (kind-field KSkill) fs) (c .put-skill .ensures .page); short = let s = c .put-skill .ensures .short in omega arith }
 
 pub returns-in-Count : need.returns-in-Count
@@ -38,5 +38,5 @@ returns-in-Count c =
 pub returns-in-Ability : need.returns-in-Ability
 returns-in-Ability c =
     let fs =
-        number-field (codes "key") (pos (c .in-Ability .key)) ∷ number-field (codes "least") (c .in-Ability .least .least) ∷ number-field (codes "over") (pos (c .in-Ability .least .over)) ∷ [] in
+    number-field (codes "key") (pos (c .in-Ability .key)) ∷ number-field (codes "least") (c .in-Ability .least .least) ∷ number-field (codes "over") (pos (c .in-Ability .least .over)) ∷ [] in
     record { page = whole _ _ _ _ _ _ (kind-field KAbility) fs (c .in-Ability .is) (line-pieces (kind-field KAbility) fs) (c .put-ability .ensures .page); short = let s = c .put-ability .ensures .short in omega arith }

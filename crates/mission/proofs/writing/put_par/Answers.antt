@@ -12,11 +12,11 @@ pub returns : need.returns
 returns c =
     record {
       page =
-        laid-then (codes "node=par kids=" ++ numeral (pos (c .args .kids))) _ (c .put-natural-at .ensures .page)
-        (laid-then (codes " need=" ++ numeral (pos (c .args .need))) (10 ∷ []) (c .put-natural-at-2 .ensures .page) (c .put .ensures));
+          laid-then (codes "node=par kids=" ++ numeral (pos (c .args .kids))) _ (c .put-natural-at .ensures .page)
+          (laid-then (codes " need=" ++ numeral (pos (c .args .need))) (10 ∷ []) (c .put-natural-at-2 .ensures .page) (c .put .ensures));
       short =
-        let a = c .put-natural-at .ensures .short in
-        let b = c .put-natural-at-2 .ensures .short in
-        let e = c .put .ensures .place in
-        omega arith;
+          let a = c .put-natural-at .ensures .short in
+          let b = c .put-natural-at-2 .ensures .short in
+          let e = c .put .ensures .place in
+          omega arith;
     }

@@ -15,11 +15,11 @@ pub returns : need.returns
 returns c =
     record {
       page =
-        laid-then (codes "node=skill skill=" ++ numeral (pos (c .args .skill))) _ (c .put-natural-at .ensures .page)
-        (laid-then (32 ∷ field (codes "device") (or-none (mapped pos (c .args .device)))) _ (c .put-device-at .ensures .page) (c .put-target .ensures .page));
+          laid-then (codes "node=skill skill=" ++ numeral (pos (c .args .skill))) _ (c .put-natural-at .ensures .page)
+          (laid-then (32 ∷ field (codes "device") (or-none (mapped pos (c .args .device)))) _ (c .put-device-at .ensures .page) (c .put-target .ensures .page));
       short =
-        let a = c .put-natural-at .ensures .short in
-        let b = c .put-device-at .ensures .short in
-        let e = c .put-target .ensures .short in
-        omega arith;
+          let a = c .put-natural-at .ensures .short in
+          let b = c .put-device-at .ensures .short in
+          let e = c .put-target .ensures .short in
+          omega arith;
     }

@@ -24,8 +24,9 @@ loop-i-again c =
     let was = c .loop-i .inv .0 in
     let few = c .loop-i .inv .1 in
     elim (c .if-is-some .came) [
-        then-is-some w ↦ (let one = one-some (c .skill .result) (sym (c .is-some .ensures) ∙ w .if-is-some .taken) in let is = w .skills-is in (omega arith, omega arith))
-      | else-is-some w ↦ (let none = one-none (c .skill .result) (sym (c .is-some .ensures) ∙ w .if-is-some .left) in let is = w .skills-is in (omega arith, omega arith)) ]
+      | then-is-some w ↦ (let one = one-some (c .skill .result) (sym (c .is-some .ensures) ∙ w .if-is-some .taken) in let is = w .skills-is in (omega arith, omega arith))
+      | else-is-some w ↦ (let none = one-none (c .skill .result) (sym (c .is-some .ensures) ∙ w .if-is-some .left) in let is = w .skills-is in (omega arith, omega arith))
+    ]
 
 pub returns : need.returns
 returns c =

@@ -1,0 +1,3 @@
+// Mission texts with their verdicts, judged by the mission library.
+#[cfg(test)]
+mod tests;

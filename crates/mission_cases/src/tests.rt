@@ -1,0 +1,9 @@
+mod case;
+mod ends;
+mod heads;
+mod lines;
+mod numbers;
+mod pages;
+mod sizes;
+mod skills;
+mod trees;

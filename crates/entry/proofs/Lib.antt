@@ -1,1 +1,4 @@
+pub mod Adding
+pub mod Holding
+pub mod Making
 pub mod Same

@@ -1,0 +1,10 @@
+pub mod Full
+pub mod Growing
+pub mod Laying
+pub mod Meaning
+pub mod Only
+pub mod Paired
+pub mod Placing
+pub mod Present
+pub mod Table
+pub mod Writing

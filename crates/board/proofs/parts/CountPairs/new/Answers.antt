@@ -1,0 +1,8 @@
+use mathlib.Core.Path.{refl, sym}
+use native.Mathlib.Omega.{arith}
+use Rattle.entry.specs.declared.parts.Count.{Count}
+use Rattle.board.proofs.Present.{present-none}
+use Rattle.board.proofs.parts.CountPairs.new.Needs as need
+
+pub ghost-result : need.ghost-result
+ghost-result c = (omega arith, (refl, (omega arith, (sym (present-none Count (c .args .size)), tt))))

@@ -1,0 +1,9 @@
+pub mod Cells
+pub mod Entering
+pub mod Faults
+pub mod Kinds
+pub mod Laws
+pub mod Laying
+pub mod Meaning
+pub mod Pairs
+pub mod Writes

@@ -18,7 +18,7 @@ pub enum Case {
 }
 
 impl Case {
-    pub fn text(&self) -> &'static [u8] {
+    pub(crate) fn text(&self) -> &'static [u8] {
         match self {
             Case::Accepted(text) | Case::Refused(_, _, text) => text,
         }
@@ -39,7 +39,7 @@ const FORMER: &[u8] = b"mission=1\ncounts=2\nabilities=3\nnodes=4\n\
     node=count key=1 least=-8\n";
 
 // The text is accepted, whatever the place holds, and writing gives it back.
-pub fn accept(heap: Global, text: &[u8]) -> Result<(), Fail> {
+pub(crate) fn accept(heap: Global, text: &[u8]) -> Result<(), Fail> {
     let mut place = Mission::new();
     place.read(text)?;
     check_writes(heap, &place, text)?;
@@ -49,7 +49,7 @@ pub fn accept(heap: Global, text: &[u8]) -> Result<(), Fail> {
 }
 
 // The text is refused with this number at this line, and the place stays as it was.
-pub fn refuse(heap: Global, text: &[u8], number: u8, line: u32) -> Result<(), Fail> {
+pub(crate) fn refuse(heap: Global, text: &[u8], number: u8, line: u32) -> Result<(), Fail> {
     let mut place = Mission::new();
     check_refuses(&mut place, text, number, line)?;
     check_writes(heap, &place, FRESH)?;
@@ -73,7 +73,7 @@ fn check_refuses(place: &mut Mission, text: &[u8], number: u8, line: u32) -> Res
 }
 
 // Holds a text to the verdict of a case, and counts it.
-pub fn judge(heap: Global, text: &[u8], case: &Case, tally: &mut Tally) -> Result<(), Fail> {
+pub(crate) fn judge(heap: Global, text: &[u8], case: &Case, tally: &mut Tally) -> Result<(), Fail> {
     let number = match case {
         Case::Accepted(_) => {
             accept(heap, text).note(shown(case.text()))?;
@@ -91,7 +91,7 @@ pub fn judge(heap: Global, text: &[u8], case: &Case, tally: &mut Tally) -> Resul
 }
 
 // Judges a table of what stands between the lines above and those below.
-pub fn judge_whole(
+pub(crate) fn judge_whole(
     heap: Global,
     above: &[u8],
     cases: &[Case],
@@ -108,7 +108,7 @@ pub fn judge_whole(
 }
 
 // Judges a table of node lines, below what they begin with.
-pub fn judge_nodes(heap: Global, above: &[u8], cases: &[Case]) -> Result<Tally, Fail> {
+pub(crate) fn judge_nodes(heap: Global, above: &[u8], cases: &[Case]) -> Result<Tally, Fail> {
     let mut tally = [0; 8];
     for case in cases {
         let text = declared(heap, above, case.text())?;
@@ -118,7 +118,7 @@ pub fn judge_nodes(heap: Global, above: &[u8], cases: &[Case]) -> Result<Tally, 
 }
 
 // The text of these node lines: one count, one ability, and as many nodes as there are lines.
-pub fn declared(heap: Global, above: &[u8], below: &[u8]) -> Result<Vec<u8>, AllocError> {
+pub(crate) fn declared(heap: Global, above: &[u8], below: &[u8]) -> Result<Vec<u8>, AllocError> {
     let nodes = line_ends(above).saturating_add(line_ends(below));
     let head = format!(heap, "mission=1\ncounts=1\nabilities=1\nnodes={nodes}\n")?;
     let mut text = Vec::from_slice(heap, head.as_bytes())?;

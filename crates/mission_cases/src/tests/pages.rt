@@ -26,7 +26,7 @@ fn page(heap: Global, text: &[u8], len: usize) -> Result<Vec<u8>, AllocError> {
 
 // The mission's text is this one: on a page of its length, on a longer one, and on one that is a
 // byte short.
-pub fn check_writes(heap: Global, mission: &Mission, text: &[u8]) -> Result<(), Fail> {
+pub(crate) fn check_writes(heap: Global, mission: &Mission, text: &[u8]) -> Result<(), Fail> {
     check_fits(heap, mission, text, text.len())?;
     check_fits(heap, mission, text, text.len().saturating_add(MORE))?;
     check_short(heap, mission, text.len().saturating_sub(1))

@@ -78,9 +78,12 @@ def library_names(text):
 
 
 def turn_code(text, turned, labels):
-    """labels: in an answer, a name after a dot or one that a goal has keeps its spelling."""
+    """labels: in an answer, a name after a dot or one that a goal has keeps its spelling; the file's own helpers turn too."""
     kept = set(library_names(text))
     goals = set(re.findall(r"goal\.([^\s(){}.;,@\"]+)", text)) if labels else set()
+    if labels:
+        helpers = {n for n in declared(text) if "-" in n and n.strip("-") and n not in goals}
+        turned = turned | {n: respelled(n) for n in helpers}
 
     def one(part):
         out, last = [], 0

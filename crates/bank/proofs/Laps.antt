@@ -1,7 +1,7 @@
 -- Calls on a timed bank, from its table.
 use Rattle.std.proofs.Common.{◌≡◌, ℕ, ◌<◌, ◌≤◌, map, length, get_or, take, set, Err, Result, arith}
-use Rattle.bank.specs.declared.fault.BankFault.{BankFault}
-use Rattle.bank.specs.declared.fault.BankFault.TheVariants.{Beyond}
+use Rattle.bank.specs.declared.bank_fault.BankFault.{BankFault}
+use Rattle.bank.specs.declared.bank_fault.BankFault.TheVariants.{Beyond}
 use Rattle.bank.specs.declared.parts.Timed.{Timed}
 use Rattle.bank.specs.declared.parts.TimedSkill.{TimedSkill}
 use Rattle.bank.specs.Skills.{Skill, asked, no_skill}

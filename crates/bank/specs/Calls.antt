@@ -2,8 +2,8 @@
 use Rattle.std.specs.Prelude.{◌≡◌, ℕ, ◌+◌, ◌<◌, ◌≤◌, Bool, true, false, cond, ◌≢◌, List, length, get_or, is_some, Some, None, Ok, Err, Option, Result, nat_lt, slice_index_or, slice_set, refl}
 use Rattle.std.proofs.Common.{sym, ap, ◌∙◌, lt-ltb, le-ltb, ltb-true, ltb-false, ⊎_elim, arith}
 use Rattle.bank.specs.declared.kinds.Reply.{Reply}
-use Rattle.bank.specs.declared.fault.BankFault.{BankFault}
-use Rattle.bank.specs.declared.fault.BankFault.TheVariants.{Beyond, Idle}
+use Rattle.bank.specs.declared.bank_fault.BankFault.{BankFault}
+use Rattle.bank.specs.declared.bank_fault.BankFault.TheVariants.{Beyond, Idle}
 use Rattle.bank.specs.declared.kinds.Reply.TheVariants.{Run, Ended}
 use Rattle.bank.specs.Skills.{Skill, Take, asked, no_skill, runs_now, poll_reply, poll_at, polled, poll_leaves, with_given, struck, leaves, halt_reply}
 use Rattle.bank.specs.Laws.{OnlyAt}

@@ -9,7 +9,7 @@ use Rattle.bank.specs.declared.kinds.Ending.TheVariants.{Fail}
 use Rattle.bank.specs.Skills.{Skill, Take, no_skill, runs_now, started, struck, poll_reply, polled, front}
 use Rattle.bank.specs.declared.kinds.Reply.{Reply}
 use Rattle.bank.specs.declared.kinds.Reply.TheVariants.{Run, Ended}
-use Rattle.bank.specs.declared.fault.BankFault.{BankFault}
+use Rattle.bank.specs.declared.bank_fault.BankFault.{BankFault}
 use Rattle.bank.specs.Calls.{poll_run, poll_end}
 use Rattle.bank.specs.Capping.{capped, capped_skills, capped_take, capped_first, capped_at}
 

@@ -1,8 +1,8 @@
 -- Calls on a recorded bank, from its table.
 use Rattle.std.specs.Prelude.{◌≡◌, ℕ, ◌<◌, ◌≤◌, map, length, take, Err, Result, slice_index_or, slice_set}
 use Rattle.std.proofs.Common.{arith}
-use Rattle.bank.specs.declared.fault.BankFault.{BankFault}
-use Rattle.bank.specs.declared.fault.BankFault.TheVariants.{Beyond}
+use Rattle.bank.specs.declared.bank_fault.BankFault.{BankFault}
+use Rattle.bank.specs.declared.bank_fault.BankFault.TheVariants.{Beyond}
 use Rattle.bank.specs.declared.parts.Recorded.{Recorded}
 use Rattle.bank.specs.declared.parts.RecordedSkill.{RecordedSkill}
 use Rattle.bank.specs.Skills.{Skill, asked, no_skill}

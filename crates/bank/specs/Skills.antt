@@ -4,8 +4,8 @@ use Rattle.bank.specs.declared.kinds.Ending.{Ending}
 use Rattle.bank.specs.declared.kinds.Ending.TheVariants.{Fail, Pass}
 use Rattle.bank.specs.declared.kinds.Reply.{Reply}
 use Rattle.bank.specs.declared.kinds.Reply.TheVariants.{Run, Ended}
-use Rattle.bank.specs.declared.fault.BankFault.{BankFault}
-use Rattle.bank.specs.declared.fault.BankFault.TheVariants.{Beyond, Running, Idle}
+use Rattle.bank.specs.declared.bank_fault.BankFault.{BankFault}
+use Rattle.bank.specs.declared.bank_fault.BankFault.TheVariants.{Beyond, Running, Idle}
 use Rattle.bank.specs.Ranges.{mark_of, given_runs}
 
 -- a take: how many runs, and how it ends

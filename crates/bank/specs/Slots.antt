@@ -1,8 +1,8 @@
 -- Calls on a bank whose skills are the first n of a table, each read by f.
 use Rattle.std.specs.Prelude.{◌≡◌, ℕ, ◌<◌, ◌≤◌, List, map, length, take, set, Err, Result, slice_index_or, slice_set, refl}
 use Rattle.std.proofs.Common.{sym, ap, ◌∙◌, arith}
-use Rattle.bank.specs.declared.fault.BankFault.{BankFault}
-use Rattle.bank.specs.declared.fault.BankFault.TheVariants.{Beyond}
+use Rattle.bank.specs.declared.bank_fault.BankFault.{BankFault}
+use Rattle.bank.specs.declared.bank_fault.BankFault.TheVariants.{Beyond}
 use Rattle.bank.specs.Skills.{Skill, asked, no_skill}
 use Rattle.bank.specs.Rows.{rows_length, rows_at, rows_set}
 use Rattle.bank.specs.Calls.{asked_in, asked_out}

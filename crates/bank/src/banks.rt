@@ -2,7 +2,7 @@
 ghost use Rattle.std.specs.Prelude.{◌≡◌, ℕ, ◌≤◌, List, length, slice_index_or};
 ghost use Rattle.bank.specs.Skills.{Skill, Sound, no_skill, runs_now, start_reply, poll_reply, halt_reply, started, polled, struck, asked, leaves};
 
-use crate::fault::BankFault;
+use crate::bank_fault::BankFault;
 use crate::kinds::Reply;
 
 // Skills numbered from 0: `skills` is what a bank means.

@@ -5,7 +5,7 @@ ghost use Rattle.bank.specs.Caps.{caps_length};
 ghost use Rattle.bank.specs.CapSounds.{caps_sound};
 
 use crate::banks::Bank;
-use crate::fault::BankFault;
+use crate::bank_fault::BankFault;
 use crate::kinds::{Ending, Reply};
 use crate::parts::Cap;
 

@@ -1,9 +1,9 @@
 // Takes given for the skills of a recorded bank.
 ghost use Rattle.std.specs.Prelude.{◌≡◌, false, MatchResult};
 ghost use Rattle.bank.specs.Ranges.{in_range, mark_of};
-ghost use Rattle.bank.specs.declared.fault.BankFault.TheVariants.{OutOfRange};
+ghost use Rattle.bank.specs.declared.bank_fault.BankFault.TheVariants.{OutOfRange};
 
-use crate::fault::BankFault;
+use crate::bank_fault::BankFault;
 use crate::kinds::Ending;
 use crate::parts::GivenTake;
 

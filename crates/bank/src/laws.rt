@@ -4,10 +4,10 @@ ghost use Rattle.bank.specs.Capping.{capped_skills};
 ghost use Rattle.bank.specs.Laws.{ChangesNoTake, OneAfterOther, OnlyAt, Shortens};
 ghost use Rattle.bank.specs.Pairing.{paired};
 ghost use Rattle.bank.specs.Skills.{asked, leaves, start_reply, poll_reply, halt_reply, started, polled, struck};
-ghost use Rattle.bank.specs.declared.fault.BankFault.TheVariants.{OutOfRange};
+ghost use Rattle.bank.specs.declared.bank_fault.BankFault.TheVariants.{OutOfRange};
 
 use crate::banks::Bank;
-use crate::fault::BankFault;
+use crate::bank_fault::BankFault;
 use crate::kinds::Reply;
 use crate::making_cap::CapRefused;
 use crate::pair::PairRefused;

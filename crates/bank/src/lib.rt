@@ -1,7 +1,9 @@
 // Skill banks: the interface, and the banks.
+#![tactic(auto)]
+
 pub mod banks;
 pub mod cap;
-pub mod fault;
+pub mod bank_fault;
 pub mod given_take;
 pub mod kinds;
 pub mod laws;

@@ -2,10 +2,10 @@
 ghost use Rattle.std.specs.Prelude.{◌≡◌, ℕ, ◌<◌, ◌≤◌, map, MatchResult, slice_index_or, slice_set};
 ghost use Rattle.bank.specs.Capping.{capped_skills, halted, shortened};
 ghost use Rattle.bank.specs.Skills.{no_skill};
-ghost use Rattle.bank.specs.declared.fault.BankFault.TheVariants.{OutOfRange};
+ghost use Rattle.bank.specs.declared.bank_fault.BankFault.TheVariants.{OutOfRange};
 
 use crate::banks::Bank;
-use crate::fault::BankFault;
+use crate::bank_fault::BankFault;
 use crate::parts::Cap;
 
 // A limit out of range, and the bank handed back.

@@ -1,9 +1,9 @@
 // Making a recorded bank from the takes given.
 ghost use Rattle.std.specs.Prelude.{◌≡◌, ◌≤◌, true, false, length, take, MatchResult};
 ghost use Rattle.bank.specs.Recording.{Begun, Holds, all_below, recordable, recorded_skills};
-ghost use Rattle.bank.specs.declared.fault.BankFault.TheVariants.{OutOfRange};
+ghost use Rattle.bank.specs.declared.bank_fault.BankFault.TheVariants.{OutOfRange};
 
-use crate::fault::BankFault;
+use crate::bank_fault::BankFault;
 use crate::kinds::Ending;
 use crate::parts::{GivenTake, Recorded, RecordedSkill};
 use crate::recorded::idle_from;

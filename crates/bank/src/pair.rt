@@ -1,12 +1,12 @@
 // A pair of banks: a skill at or beyond the first's width is the second's.
 ghost use Rattle.std.specs.Prelude.{◌≡◌, ℕ, ◌+◌, ◌<◌, ◌≤◌, ◌++◌, length, MatchResult};
 ghost use Rattle.bank.specs.Pairing.{paired};
-ghost use Rattle.bank.specs.declared.fault.BankFault.TheVariants.{OutOfRange};
+ghost use Rattle.bank.specs.declared.bank_fault.BankFault.TheVariants.{OutOfRange};
 ghost use Rattle.std.proofs.Common.{arith};
 ghost use Rattle.bank.specs.Pairs.{paired_width, paired_sound};
 
 use crate::banks::Bank;
-use crate::fault::BankFault;
+use crate::bank_fault::BankFault;
 use crate::kinds::Reply;
 use crate::parts::Pair;
 

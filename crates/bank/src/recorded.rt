@@ -7,7 +7,7 @@ ghost use Rattle.bank.specs.RecordSounds.{recorded_sound};
 ghost use Rattle.bank.specs.Sounds.{map_sound};
 
 use crate::banks::Bank;
-use crate::fault::BankFault;
+use crate::bank_fault::BankFault;
 use crate::kinds::{Ending, Reply};
 use crate::parts::{GivenTake, Recorded, RecordedSkill};
 

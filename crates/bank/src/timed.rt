@@ -1,13 +1,13 @@
 // The timed bank: each skill repeats one passing take.
 ghost use Rattle.std.specs.Prelude.{◌≡◌, ℕ, ◌<◌, ◌≤◌, map, length, take, MatchResult};
 ghost use Rattle.bank.specs.Timing.{timed_skill, timed_skills, timing_skill};
-ghost use Rattle.bank.specs.declared.fault.BankFault.TheVariants.{OutOfRange};
+ghost use Rattle.bank.specs.declared.bank_fault.BankFault.TheVariants.{OutOfRange};
 ghost use Rattle.std.proofs.Common.{arith};
 ghost use Rattle.bank.specs.Rows.{rows_length};
 ghost use Rattle.bank.specs.Sounds.{map_sound};
 
 use crate::banks::Bank;
-use crate::fault::BankFault;
+use crate::bank_fault::BankFault;
 use crate::kinds::{Ending, Reply};
 use crate::parts::{Timed, TimedSkill, Timing};
 

@@ -1,9 +1,9 @@
 // Passing takes for timed skills.
 ghost use Rattle.std.specs.Prelude.{◌≡◌, false, MatchResult};
 ghost use Rattle.bank.specs.Ranges.{in_range};
-ghost use Rattle.bank.specs.declared.fault.BankFault.TheVariants.{OutOfRange};
+ghost use Rattle.bank.specs.declared.bank_fault.BankFault.TheVariants.{OutOfRange};
 
-use crate::fault::BankFault;
+use crate::bank_fault::BankFault;
 use crate::parts::Timing;
 
 impl Timing {

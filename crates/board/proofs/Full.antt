@@ -2,7 +2,7 @@
 use Rattle.std.proofs.Common.{◌≡◌, ℕ, cond, List, length, Some, None, Ok, Err, Option, sym, refl, ap, ◌∙◌}
 use Rattle.std.proofs.lemmas.Bool.{lt-ltb}
 use Rattle.board.specs.declared.entering.Entered.TheVariants.{Full}
-use Rattle.board.specs.declared.fault.BoardFault.TheVariants.{Beyond}
+use Rattle.board.specs.declared.board_fault.BoardFault.TheVariants.{Beyond}
 use Rattle.board.specs.Entering.{entering, entered, offered, outcome, put, taken_or_full}
 use Rattle.board.specs.Meaning.{at}
 use Rattle.board.proofs.Meaning.{at_below}

@@ -2,8 +2,8 @@
 use Rattle.std.proofs.Common.{◌≡◌, ℕ, ◌<◌, ◌≤◌, List, length, set, Some, None, Ok, Err, Option, Result, sym, refl, ap, ◌∙◌, subst, ⊎_elim, arith}
 use Rattle.std.proofs.lemmas.List.{get_or-set_same, get_or-set_other, length-set}
 use Rattle.std.proofs.lemmas.Bool.{cases_lt}
-use Rattle.board.specs.declared.fault.BoardFault.{BoardFault}
-use Rattle.board.specs.declared.fault.BoardFault.TheVariants.{Beyond}
+use Rattle.board.specs.declared.board_fault.BoardFault.{BoardFault}
+use Rattle.board.specs.declared.board_fault.BoardFault.TheVariants.{Beyond}
 use Rattle.board.specs.Entering.{put}
 use Rattle.board.specs.Laws.{OnlyAt, Sets}
 use Rattle.board.specs.Meaning.{at, answer, written}

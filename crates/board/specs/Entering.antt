@@ -4,8 +4,8 @@
 use Rattle.std.specs.Prelude.{ℕ, Bool, false, cond, List, length, Some, None, Ok, Err, Option, Result, nat_lt}
 use Rattle.board.specs.declared.entering.Entered.{Entered}
 use Rattle.board.specs.declared.entering.Entered.TheVariants.{Made, Taken, Full}
-use Rattle.board.specs.declared.fault.BoardFault.{BoardFault}
-use Rattle.board.specs.declared.fault.BoardFault.TheVariants.{Beyond}
+use Rattle.board.specs.declared.board_fault.BoardFault.{BoardFault}
+use Rattle.board.specs.declared.board_fault.BoardFault.TheVariants.{Beyond}
 use Rattle.board.specs.Meaning.{at, written}
 
 -- the entry that a share makes of what a key holds; absent where that is full

@@ -2,8 +2,8 @@
 use Rattle.std.specs.Prelude.{ℕ}
 use Rattle.fault.specs.declared.layer.Layer.{Layer}
 use Rattle.fault.specs.declared.layer.Layer.TheVariants.{Board}
-use Rattle.board.specs.declared.fault.BoardFault.{BoardFault}
-use Rattle.board.specs.declared.fault.BoardFault.TheVariants.{OutOfRange, Beyond}
+use Rattle.board.specs.declared.board_fault.BoardFault.{BoardFault}
+use Rattle.board.specs.declared.board_fault.BoardFault.TheVariants.{OutOfRange, Beyond}
 
 abbrev pub number : BoardFault → ℕ
 number OutOfRange = 2

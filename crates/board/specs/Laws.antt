@@ -6,8 +6,8 @@ use Rattle.entry.specs.declared.parts.Mark.{Mark}
 use Rattle.entry.specs.declared.parts.Weighed.{Weighed}
 use Rattle.entry.specs.Abilities.{gain}
 use Rattle.entry.specs.Ranges.{is_count}
-use Rattle.board.specs.declared.fault.BoardFault.{BoardFault}
-use Rattle.board.specs.declared.fault.BoardFault.TheVariants.{Beyond}
+use Rattle.board.specs.declared.board_fault.BoardFault.{BoardFault}
+use Rattle.board.specs.declared.board_fault.BoardFault.TheVariants.{Beyond}
 use Rattle.board.specs.Meaning.{at}
 
 -- two boards that began equal (one, two) and were given the same writes: they refused the same

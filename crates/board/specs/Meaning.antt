@@ -1,7 +1,7 @@
 -- What a board means, a list of optional entries as long as its size, and what a call makes of it.
 use Rattle.std.specs.Prelude.{ℕ, cond, List, length, set, Some, None, Ok, Err, Option, Result, nat_lt, slice_index_or, slice_set}
-use Rattle.board.specs.declared.fault.BoardFault.{BoardFault}
-use Rattle.board.specs.declared.fault.BoardFault.TheVariants.{Beyond}
+use Rattle.board.specs.declared.board_fault.BoardFault.{BoardFault}
+use Rattle.board.specs.declared.board_fault.BoardFault.TheVariants.{Beyond}
 
 -- what a key holds: a key at or beyond the size is absent
 abbrev pub at : {E : Type 0} → List (Option E) → ℕ → Option E

@@ -1,11 +1,11 @@
 // Abilities on a board of cells by key.
 ghost use Rattle.std.specs.Prelude.{◌≡◌, ◌<◌, ◌≤◌, replicate, None, MatchResult};
 ghost use Rattle.board.specs.Cells.{ability_cells};
-ghost use Rattle.board.specs.declared.fault.BoardFault.TheVariants.{OutOfRange};
+ghost use Rattle.board.specs.declared.board_fault.BoardFault.TheVariants.{OutOfRange};
 ghost use Rattle.std.proofs.Common.{rules, arith};
 
 use crate::boards::Board;
-use crate::fault::BoardFault;
+use crate::board_fault::BoardFault;
 use crate::parts::AbilityCells;
 use entry::parts::Ability;
 

@@ -3,13 +3,13 @@ ghost use Rattle.std.specs.Prelude.{◌≡◌, ◌<◌, ◌≤◌, take, replica
 ghost use Rattle.board.specs.Kinds.{ability_place};
 ghost use Rattle.board.specs.Laying.{Found};
 ghost use Rattle.board.specs.Pairs.{ability_pairs};
-ghost use Rattle.board.specs.declared.fault.BoardFault.TheVariants.{OutOfRange};
+ghost use Rattle.board.specs.declared.board_fault.BoardFault.TheVariants.{OutOfRange};
 ghost use Rattle.std.proofs.Common.{arith};
 ghost use Rattle.board.specs.declared.pair.AbilityPair.{AbilityPair};
 ghost use Rattle.board.specs.LayingLemmas.{length_laid};
 
 use crate::boards::Board;
-use crate::fault::BoardFault;
+use crate::board_fault::BoardFault;
 use crate::pair::AbilityPair;
 use crate::parts::AbilityPairs;
 use entry::parts::Ability;

@@ -3,7 +3,7 @@
 ghost use Rattle.std.specs.Prelude.{◌≡◌, ◌≤◌, List, length, Option as Perhaps};
 ghost use Rattle.board.specs.Meaning.{at, answer, written};
 
-use crate::fault::BoardFault;
+use crate::board_fault::BoardFault;
 use entry::kind::Entry;
 
 pub trait Board<E: Entry> {

@@ -1,11 +1,11 @@
 // Counts on a board of cells by key.
 ghost use Rattle.std.specs.Prelude.{◌≡◌, ◌<◌, ◌≤◌, replicate, None, MatchResult};
 ghost use Rattle.board.specs.Cells.{count_cells};
-ghost use Rattle.board.specs.declared.fault.BoardFault.TheVariants.{OutOfRange};
+ghost use Rattle.board.specs.declared.board_fault.BoardFault.TheVariants.{OutOfRange};
 ghost use Rattle.std.proofs.Common.{rules, arith};
 
 use crate::boards::Board;
-use crate::fault::BoardFault;
+use crate::board_fault::BoardFault;
 use crate::parts::CountCells;
 use entry::parts::Count;
 

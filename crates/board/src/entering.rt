@@ -4,7 +4,7 @@ ghost use Rattle.board.specs.Entering.{entering, entered, held_to};
 ghost use Rattle.board.specs.Meaning.{at};
 
 use crate::boards::Board;
-use crate::fault::BoardFault;
+use crate::board_fault::BoardFault;
 use entry::kind::Entry;
 
 // How entering a share went: it made the entry, was taken by it, or the entry is full for it.

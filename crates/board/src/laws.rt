@@ -6,11 +6,11 @@ ghost use Rattle.board.specs.Entering.{entering, entered};
 ghost use Rattle.board.specs.Laws.{Alike, OnlyAt, Sets, CountGrows, AbilityGrows};
 ghost use Rattle.board.specs.Meaning.{at, answer, written};
 ghost use Rattle.board.specs.Writes.{all_written, refusals};
-ghost use Rattle.board.specs.declared.fault.BoardFault.TheVariants.{OutOfRange};
+ghost use Rattle.board.specs.declared.board_fault.BoardFault.TheVariants.{OutOfRange};
 
 use crate::boards::Board;
 use crate::entering::{Entered, enter};
-use crate::fault::BoardFault;
+use crate::board_fault::BoardFault;
 use crate::parts::{AbilityCells, AbilityPairs, CountCells, CountPairs};
 use crate::writes::write_all;
 use entry::kind::Entry;

@@ -1,11 +1,13 @@
 // Boards: what marks are entered on, an interface over every kind of entry and two boards of each.
+#![tactic(auto)]
+
 pub mod ability_cells;
 pub mod ability_pairs;
 pub mod boards;
 pub mod count_cells;
 pub mod count_pairs;
 pub mod entering;
-pub mod fault;
+pub mod board_fault;
 pub mod laws;
 pub mod pair;
 pub mod parts;

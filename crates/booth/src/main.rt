@@ -1,4 +1,6 @@
 // The booth program: judges mission texts.
+#![tactic(auto)]
+
 mod command;
 mod refusals;
 mod verdict;

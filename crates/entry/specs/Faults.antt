@@ -2,8 +2,8 @@
 use Rattle.std.specs.Prelude.{ℕ}
 use Rattle.fault.specs.declared.layer.Layer.{Layer}
 use Rattle.fault.specs.declared.layer.Layer.TheVariants.{Board}
-use Rattle.entry.specs.declared.fault.EntryFault.{EntryFault}
-use Rattle.entry.specs.declared.fault.EntryFault.TheVariants.{OutOfRange}
+use Rattle.entry.specs.declared.entry_fault.EntryFault.{EntryFault}
+use Rattle.entry.specs.declared.entry_fault.EntryFault.TheVariants.{OutOfRange}
 
 abbrev pub number : EntryFault → ℕ
 number OutOfRange = 2

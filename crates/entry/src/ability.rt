@@ -1,9 +1,9 @@
 ghost use Rattle.std.specs.Prelude.{◌≡◌, ◌*◌, false, pos, ◌*ℤ◌, neg_ℤ, ◌≤ℤ◌, MatchResult};
 ghost use Rattle.entry.specs.Abilities.{ability_meets, ability_takes, ability_makes, gain as gain_of};
 ghost use Rattle.entry.specs.Ranges.{is_ability};
-ghost use Rattle.entry.specs.declared.fault.EntryFault.TheVariants.{OutOfRange};
+ghost use Rattle.entry.specs.declared.entry_fault.EntryFault.TheVariants.{OutOfRange};
 
-use crate::fault::EntryFault;
+use crate::entry_fault::EntryFault;
 use crate::kind::Entry;
 use crate::parts::{Ability, AbilityThreshold, Weighed};
 

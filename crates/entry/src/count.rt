@@ -1,9 +1,9 @@
 ghost use Rattle.std.specs.Prelude.{◌≡◌, false, MatchResult};
 ghost use Rattle.entry.specs.Counts.{count_meets, count_takes, count_makes};
 ghost use Rattle.entry.specs.Ranges.{is_count};
-ghost use Rattle.entry.specs.declared.fault.EntryFault.TheVariants.{OutOfRange};
+ghost use Rattle.entry.specs.declared.entry_fault.EntryFault.TheVariants.{OutOfRange};
 
-use crate::fault::EntryFault;
+use crate::entry_fault::EntryFault;
 use crate::kind::Entry;
 use crate::parts::{Count, CountThreshold, Mark};
 

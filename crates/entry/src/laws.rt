@@ -2,7 +2,7 @@
 ghost use Rattle.std.specs.Prelude.{◌≡◌, true, false, Ok};
 ghost use Rattle.entry.specs.Laws.{CountAdds, AbilityAdds};
 
-use crate::fault::EntryFault;
+use crate::entry_fault::EntryFault;
 use crate::kind::Entry;
 use crate::parts::{Ability, AbilityThreshold, Count, Mark, Weighed};
 

@@ -1,8 +1,10 @@
 // Entries, what they take and what they are held to, each with its range: counts and abilities.
+#![tactic(auto)]
+
 pub mod ability;
 pub mod ability_threshold;
 pub mod count;
-pub mod fault;
+pub mod entry_fault;
 pub mod kind;
 pub mod laws;
 pub mod mark;

@@ -1,4 +1,4 @@
-use crate::fault::EntryFault;
+use crate::entry_fault::EntryFault;
 use crate::kind::Entry;
 use crate::parts::{Ability, AbilityThreshold, Count, CountThreshold, Mark, Weighed, Weight};
 use fault::refusal::Refusal;

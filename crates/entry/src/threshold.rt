@@ -1,8 +1,8 @@
 ghost use Rattle.std.specs.Prelude.{◌≡◌, true, false, MatchResult};
 ghost use Rattle.entry.specs.Ranges.{count_threshold};
-ghost use Rattle.entry.specs.declared.fault.EntryFault.TheVariants.{OutOfRange};
+ghost use Rattle.entry.specs.declared.entry_fault.EntryFault.TheVariants.{OutOfRange};
 
-use crate::fault::EntryFault;
+use crate::entry_fault::EntryFault;
 use crate::parts::CountThreshold;
 
 impl CountThreshold {

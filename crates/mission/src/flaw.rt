@@ -2,7 +2,7 @@ ghost use Rattle.std.specs.Prelude.{◌≡◌};
 ghost use Rattle.mission.specs.Faults.{flaw_number};
 ghost use Rattle.mission.specs.declared.flaw.Flaw.TheVariants.{Range as OutOfRange};
 
-use entry::fault::EntryFault;
+use entry::entry_fault::EntryFault;
 
 // What can be wrong with a line by itself.
 #[derive(Clone, Copy, PartialEq, Eq, Debug)]

@@ -1,4 +1,6 @@
 // Missions: lawful behaviour trees in preorder, read from texts and written to them.
+#![tactic(auto)]
+
 pub mod breach;
 pub mod flaw;
 mod line;

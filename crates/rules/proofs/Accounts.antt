@@ -1,7 +1,7 @@
 -- Whatever calls follow an accepted opening, a named skill is accounted for at every point.
 use Rattle.std.proofs.Common.{◌≡◌, ℕ, suc, ◌+◌, ◌≤◌, Bool, true, false, not, eqb, List, [], ◌∷◌, pos, Some, None, Option, sym, refl, ap, ◌∙◌, arith, eq-eqb}
 use Rattle.mission.specs.Trees.{Tree}
-use Rattle.rules.specs.declared.fault.SittingFault.{SittingFault}
+use Rattle.rules.specs.declared.sitting_fault.SittingFault.{SittingFault}
 use Rattle.rules.specs.declared.word.Word.TheVariants.{RootRun, RootPass, RootFail, RootHalt, RootClosed}
 use Rattle.rules.specs.Laws.{AtEveryPoint, over, also, Accounted}
 use Rattle.rules.specs.Leaves.{World, Users, runs_in, in_tick, users}

@@ -2,8 +2,8 @@
 use Rattle.std.proofs.Common.{◌≡◌, ℕ, suc, ◌+◌, ◌-◌, ◌*◌, ◌<◌, ◌≤◌, Bool, true, false, not, ◌||◌, eqb, ltb, List, [], ◌∷◌, length, Some, None, Option, sym, refl, ap, ◌∙◌, subst, arith, ltb-false, eqb-true}
 use Rattle.std.proofs.lemmas.List.{length-append}
 use Rattle.mission.specs.Trees.{Tree}
-use Rattle.rules.specs.declared.fault.SittingFault.{SittingFault}
-use Rattle.rules.specs.declared.fault.SittingFault.TheVariants.{PlaceOpen, SkillBeyond, SkillRuns, SkillsDiffer, BoardSmall, TraceLength, TraceFull}
+use Rattle.rules.specs.declared.sitting_fault.SittingFault.{SittingFault}
+use Rattle.rules.specs.declared.sitting_fault.SittingFault.TheVariants.{PlaceOpen, SkillBeyond, SkillRuns, SkillsDiffer, BoardSmall, TraceLength, TraceFull}
 use Rattle.rules.specs.declared.line.Line.{Line}
 use Rattle.rules.specs.declared.word.Word.{Word}
 use Rattle.rules.specs.declared.word.Word.TheVariants.{RootHalt, RootClosed}

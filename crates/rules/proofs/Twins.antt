@@ -1,8 +1,8 @@
 -- Two sittings whose missions regrouping joins, begun alike, are seen the same.
 use Rattle.std.proofs.Common.{◌≡◌, ℕ, suc, Bool, true, false, not, eqb, List, [], ◌∷◌, Some, None, Option, sym, refl, ◌∙◌, subst, ap₂}
 use Rattle.mission.specs.Trees.{Tree}
-use Rattle.rules.specs.declared.fault.SittingFault.{SittingFault}
-use Rattle.rules.specs.declared.fault.SittingFault.TheVariants.{PlaceClosed, TraceLength}
+use Rattle.rules.specs.declared.sitting_fault.SittingFault.{SittingFault}
+use Rattle.rules.specs.declared.sitting_fault.SittingFault.TheVariants.{PlaceClosed, TraceLength}
 use Rattle.rules.specs.declared.word.Word.TheVariants.{RootHalt, RootClosed}
 use Rattle.rules.specs.Laws.{Sight, sight, seen}
 use Rattle.rules.specs.Leaves.{World, Users, in_tick, users}

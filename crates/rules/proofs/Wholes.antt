@@ -5,8 +5,8 @@ use Rattle.entry.specs.declared.parts.Count.{Count}
 use Rattle.bank.specs.Skills.{Skill}
 use Rattle.mission.specs.declared.mission.Mission.{Mission}
 use Rattle.mission.specs.Trees.{Tree}
-use Rattle.rules.specs.declared.fault.SittingFault.{SittingFault}
-use Rattle.rules.specs.declared.fault.SittingFault.TheVariants.{PlaceOpen, SkillBeyond, SkillRuns, BoardSmall, TraceLength}
+use Rattle.rules.specs.declared.sitting_fault.SittingFault.{SittingFault}
+use Rattle.rules.specs.declared.sitting_fault.SittingFault.TheVariants.{PlaceOpen, SkillBeyond, SkillRuns, BoardSmall, TraceLength}
 use Rattle.rules.specs.Laws.{AtEveryPoint, points, Accounted, Sight, sight, seen, Alike, WholeRuns, LawOfWholeRuns}
 use Rattle.rules.specs.Leaves.{World, Users, users}
 use Rattle.rules.specs.Missions.{Plan, plan, names, Joined}

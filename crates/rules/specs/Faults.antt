@@ -4,8 +4,8 @@ use Rattle.fault.specs.declared.layer.Layer.{Layer}
 use Rattle.fault.specs.declared.layer.Layer.TheVariants.{Sitting}
 use Rattle.bank.specs.Faults.{number as bank_number, layer as bank-layer}
 use Rattle.board.specs.Faults.{number as board_number, layer as board-layer}
-use Rattle.rules.specs.declared.fault.SittingFault.{SittingFault}
-use Rattle.rules.specs.declared.fault.SittingFault.TheVariants.{PlaceOpen, PlaceClosed, SkillBeyond, SkillRuns, SkillsDiffer, BoardSmall, TraceLength, TraceFull, OtherSlip, Bank, Board}
+use Rattle.rules.specs.declared.sitting_fault.SittingFault.{SittingFault}
+use Rattle.rules.specs.declared.sitting_fault.SittingFault.TheVariants.{PlaceOpen, PlaceClosed, SkillBeyond, SkillRuns, SkillsDiffer, BoardSmall, TraceLength, TraceFull, OtherSlip, Bank, Board}
 
 abbrev pub number : SittingFault → ℕ
 number PlaceOpen = 8

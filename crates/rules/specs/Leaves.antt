@@ -11,7 +11,7 @@ use Rattle.entry.specs.Counts.{count_meets, count_takes, count_makes}
 use Rattle.entry.specs.Holding.{where_true, front, back}
 use Rattle.entry.specs.Ranges.{is_mark}
 use Rattle.bank.specs.Skills.{Skill, no_skill, runs_now, started, struck, polled, poll_reply}
-use Rattle.bank.specs.declared.fault.BankFault.{BankFault}
+use Rattle.bank.specs.declared.bank_fault.BankFault.{BankFault}
 use Rattle.bank.specs.declared.kinds.Ending.TheVariants.{Fail as EndFail, Pass as EndPass}
 use Rattle.bank.specs.declared.kinds.Reply.{Reply}
 use Rattle.bank.specs.declared.kinds.Reply.TheVariants.{Run as OneMoreRun, Ended}

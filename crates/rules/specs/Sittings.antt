@@ -2,8 +2,8 @@
 -- changes nothing.
 use Rattle.std.specs.Prelude.{ℕ, suc, ◌+◌, ◌-◌, ◌*◌, Bool, true, false, not, ◌||◌, List, [], ◌∷◌, length, Some, None, Option, ◌==◌, nat_lt}
 use Rattle.bank.specs.Skills.{Skill}
-use Rattle.rules.specs.declared.fault.SittingFault.{SittingFault}
-use Rattle.rules.specs.declared.fault.SittingFault.TheVariants.{PlaceOpen, PlaceClosed, SkillBeyond, SkillRuns, SkillsDiffer, BoardSmall, TraceLength, TraceFull, OtherSlip}
+use Rattle.rules.specs.declared.sitting_fault.SittingFault.{SittingFault}
+use Rattle.rules.specs.declared.sitting_fault.SittingFault.TheVariants.{PlaceOpen, PlaceClosed, SkillBeyond, SkillRuns, SkillsDiffer, BoardSmall, TraceLength, TraceFull, OtherSlip}
 use Rattle.rules.specs.declared.line.Line.{Line}
 use Rattle.rules.specs.declared.status.Status.{Status}
 use Rattle.rules.specs.declared.word.Word.{Word}

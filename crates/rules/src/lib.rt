@@ -1,6 +1,8 @@
 // The rules of a sitting: statuses, trace lines and refusals as types, what every call means as
 // definitions, and the laws above them.
-pub mod fault;
+#![tactic(auto)]
+
+pub mod sitting_fault;
 pub mod laws;
 pub mod line;
 pub mod status;

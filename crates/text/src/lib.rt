@@ -1,4 +1,6 @@
 // Lines of fields, as mission texts and evenings are written.
+#![tactic(auto)]
+
 pub mod cut;
 pub mod field;
 pub mod numeral;

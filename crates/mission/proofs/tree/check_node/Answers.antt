@@ -14,15 +14,15 @@ long : (o : Outline) → length (shape o).nodes ≡ o.len
 long o = length-take-le o.len o.nodes (let f = o.fits in let t = o.table in omega arith)
 
 -- the test for places that stay open, at the number of nodes
-open-test : (o : Outline) (i : ℕ) (alone : Bool) (n : Node) (t : Bool) → t ≡ (eqb (i + 1) o.len && (not alone || ltb 0 (arity n))) → leaves i (length (shape o).nodes) alone n ≡ t
-open-test o i alone n t e = ap (λ l. leaves i l alone n) (long o) ∙ sym e
+open_test : (o : Outline) (i : ℕ) (alone : Bool) (n : Node) (t : Bool) → t ≡ (eqb (i + 1) o.len && (not alone || ltb 0 (arity n))) → leaves i (length (shape o).nodes) alone n ≡ t
+open_test o i alone n t e = ap (λ l. leaves i l alone n) (long o) ∙ sym e
 
 pub returns-then-leaves-open : goal.returns-then-leaves-open
 returns-then-leaves-open c =
     let o = c.args.outline.now in
     let i = c.args.at in
     let n = c.node-node.result in (
-      unplaced (shape o) n c.requires.reading c.node-node.ensures (open-test o i c.args.alone n true c.if-leaves-open.ensures),
+      unplaced (shape o) n c.requires.reading c.node-node.ensures (open_test o i c.args.alone n true c.if-leaves-open.ensures),
       none_below (shape o) i 3 (λ h. absurd (omega arith)) (λ h. absurd (omega arith)) (λ h. absurd (omega arith)) (λ h. absurd (omega arith)) (λ h. absurd (omega arith)),
     )
 
@@ -33,7 +33,7 @@ returns-then-level-gt-LEVELS c =
     let n = c.node-node.result in (
       deep (shape o) c.requires.reading c.if-level-gt-LEVELS.true,
       none_below (shape o) i 4
-          (λ h. placed (shape o) n c.requires.reading c.node-node.ensures (open-test o i c.args.alone n false c.if-leaves-open.ensures))
+          (λ h. placed (shape o) n c.requires.reading c.node-node.ensures (open_test o i c.args.alone n false c.if-leaves-open.ensures))
           (λ h. absurd (omega arith)) (λ h. absurd (omega arith)) (λ h. absurd (omega arith)) (λ h. absurd (omega arith)),
     )
 
@@ -44,7 +44,7 @@ returns-then-named-before c =
     let n = c.node-node.result in (
       again (shape o) n o.in_range c.requires.reading c.node-node.ensures (sym c.if-named-before.ensures),
       none_below (shape o) i 5
-          (λ h. placed (shape o) n c.requires.reading c.node-node.ensures (open-test o i c.args.alone n false c.if-leaves-open.ensures))
+          (λ h. placed (shape o) n c.requires.reading c.node-node.ensures (open_test o i c.args.alone n false c.if-leaves-open.ensures))
           (λ h. shallow (shape o) c.requires.reading c.if-level-gt-LEVELS.false)
           (λ h. absurd (omega arith)) (λ h. absurd (omega arith)) (λ h. absurd (omega arith)),
     )
@@ -56,7 +56,7 @@ returns-then-key-beyond c =
     let n = c.node-node.result in (
       subst (Beyond (shape o)) c.node-node.ensures (c.if-key-beyond.ensures.0 refl),
       none_below (shape o) i 6
-          (λ h. placed (shape o) n c.requires.reading c.node-node.ensures (open-test o i c.args.alone n false c.if-leaves-open.ensures))
+          (λ h. placed (shape o) n c.requires.reading c.node-node.ensures (open_test o i c.args.alone n false c.if-leaves-open.ensures))
           (λ h. shallow (shape o) c.requires.reading c.if-level-gt-LEVELS.false)
           (λ h. once (shape o) n o.in_range c.requires.reading c.node-node.ensures (sym c.if-named-before.ensures))
           (λ h. absurd (omega arith)) (λ h. absurd (omega arith)),
@@ -69,7 +69,7 @@ returns-then-needs-too-many c =
     let n = c.node-node.result in (
       subst Overneeds c.node-node.ensures (c.if-needs-too-many.ensures.0 refl),
       none_below (shape o) i 7
-          (λ h. placed (shape o) n c.requires.reading c.node-node.ensures (open-test o i c.args.alone n false c.if-leaves-open.ensures))
+          (λ h. placed (shape o) n c.requires.reading c.node-node.ensures (open_test o i c.args.alone n false c.if-leaves-open.ensures))
           (λ h. shallow (shape o) c.requires.reading c.if-level-gt-LEVELS.false)
           (λ h. once (shape o) n o.in_range c.requires.reading c.node-node.ensures (sym c.if-named-before.ensures))
           (λ h b. not_from_Decides _ c.key-beyond.ensures c.if-key-beyond.false (subst (Beyond (shape o)) (sym c.node-node.ensures) b))
@@ -83,7 +83,7 @@ returns c =
     let n = c.node-node.result in
     λ b.
     none_below (shape o) i 8
-    (λ h. placed (shape o) n c.requires.reading c.node-node.ensures (open-test o i c.args.alone n false c.if-leaves-open.ensures))
+    (λ h. placed (shape o) n c.requires.reading c.node-node.ensures (open_test o i c.args.alone n false c.if-leaves-open.ensures))
     (λ h. shallow (shape o) c.requires.reading c.if-level-gt-LEVELS.false)
     (λ h. once (shape o) n o.in_range c.requires.reading c.node-node.ensures (sym c.if-named-before.ensures))
     (λ h b. not_from_Decides _ c.key-beyond.ensures c.if-key-beyond.false (subst (Beyond (shape o)) (sym c.node-node.ensures) b))

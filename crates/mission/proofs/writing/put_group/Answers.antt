@@ -8,11 +8,11 @@ use Rattle.mission.specs.declared.raw.NodeKind.TheVariants.{Group as KGroup}
 use Rattle.mission.specs.Pieces.{kind_field}
 use Rattle.mission.proofs.writing.put_group.Goals as goal
 
-group-short : (k : GroupKind) → length (kind_field (KGroup k)) ≤ 10
-group-short Seq = omega arith
-group-short Fall = omega arith
-group-short Mseq = omega arith
-group-short Mfall = omega arith
+group_short : (k : GroupKind) → length (kind_field (KGroup k)) ≤ 10
+group_short Seq = omega arith
+group_short Fall = omega arith
+group_short Mseq = omega arith
+group_short Mfall = omega arith
 
 pub returns : goal.returns
 returns c =
@@ -23,7 +23,7 @@ returns c =
           (laid_then (codes " kids=" ++ numeral (pos c.args.kids)) (10 ∷ []) c.put-natural-at.ensures.page c.put.ensures);
       short =
           let a = c.put-at.ensures.place in
-          let l = group-short c.args.kind in
+          let l = group_short c.args.kind in
           let k = ap length kind in
           let b = c.put-natural-at.ensures.short in
           let e = c.put.ensures.place in

@@ -11,13 +11,13 @@ use Rattle.text.proofs.Readings.{valued_at, kept_below, kept_pos}
 use Rattle.text.proofs.numeral.read_numeral.Goals as goal
 
 -- what is read after a minus, at a zero, and else
-at-minus : (s : List ℕ) → 0 < length s → get_or s 0 0 ≡ 45 → option_map kept (valued s) ≡ below (option_map (λ n. min n most) (above (take (length s - 1) (drop 1 s))))
-at-minus s h e =
+at_minus : (s : List ℕ) → 0 < length s → get_or s 0 0 ≡ 45 → option_map kept (valued s) ≡ below (option_map (λ n. min n most) (above (take (length s - 1) (drop 1 s))))
+at_minus s h e =
     let t : eqb (get_or s 0 0) 45 ≡ true = grind (arith, nat_tests) in
     ap (option_map kept) (valued_at s h ∙ cond-true _ _ _ t) ∙ kept_below (above (drop 1 s)) ∙ ap (λ xs. below (option_map (λ n. min n most) (above xs))) (sym (take_rest s 1))
 
-at-nought : (s : List ℕ) → 0 < length s → get_or s 0 0 ≡ 48 → option_map kept (valued s) ≡ option_map kept (alone (drop 1 s))
-at-nought s h e =
+at_nought : (s : List ℕ) → 0 < length s → get_or s 0 0 ≡ 48 → option_map kept (valued s) ≡ option_map kept (alone (drop 1 s))
+at_nought s h e =
     let f : eqb (get_or s 0 0) 45 ≡ false = grind (arith, nat_tests) in
     let t : eqb (get_or s 0 0) 48 ≡ true = grind (arith, nat_tests) in
     ap (option_map kept) (valued_at s h ∙ cond-false _ _ _ f ∙ cond-true _ _ _ t)
@@ -52,27 +52,27 @@ pub returns-in-err-n : goal.returns-in-err-n
 unfolding below
 returns-in-err-n c =
     let s = c.args.s.now in
-    let e = c.from-residual.ensures ∙ ap below c.in-err-n.ensures.value ∙ sym (at-minus s (omega arith) c.if-s-eq45.true) in
+    let e = c.from-residual.ensures ∙ ap below c.in-err-n.ensures.value ∙ sym (at_minus s (omega arith) c.if-s-eq45.true) in
     record { reads = e; numeral = read_as s _ e }
 
 pub returns-then-s-eq45 : goal.returns-then-s-eq45
 returns-then-s-eq45 c =
     let s = c.args.s.now in
     let r = c.in-ok-n.ensures in
-    let e = minus_is c.in-ok-n.n r.range.0 r.range.1 ∙ ap below r.value ∙ sym (at-minus s (omega arith) c.if-s-eq45.true) in
+    let e = minus_is c.in-ok-n.n r.range.0 r.range.1 ∙ ap below r.value ∙ sym (at_minus s (omega arith) c.if-s-eq45.true) in
     record { reads = e; numeral = read_as s _ e }
 
 pub returns-then-s-eq1 : goal.returns-then-s-eq1
 unfolding kept
 returns-then-s-eq1 c =
     let s = c.args.s.now in
-    let e = sym (at-nought s (omega arith) c.if-s-eq48.true ∙ ap (λ xs. option_map kept (alone xs)) (drop_all 1 s (omega arith))) in
+    let e = sym (at_nought s (omega arith) c.if-s-eq48.true ∙ ap (λ xs. option_map kept (alone xs)) (drop_all 1 s (omega arith))) in
     record { reads = e; numeral = read_as s (Some (pos 0)) e }
 
 pub returns-else-s-eq1 : goal.returns-else-s-eq1
 returns-else-s-eq1 c =
     let s = c.args.s.now in
-    let e = sym (at-nought s (omega arith) c.if-s-eq48.true ∙ ap (option_map kept) (longer s (omega arith))) in
+    let e = sym (at_nought s (omega arith) c.if-s-eq48.true ∙ ap (option_map kept) (longer s (omega arith))) in
     record { reads = e; numeral = read_as s None e }
 
 pub returns-in-err-n-2 : goal.returns-in-err-n-2

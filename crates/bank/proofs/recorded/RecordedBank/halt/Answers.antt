@@ -1,6 +1,6 @@
 use Rattle.std.proofs.Common.{cond, get_or, take, Some, None, Ok, Err, sym, refl, ap, ◌∙◌, arith}
 use Rattle.std.proofs.lemmas.List.{get_or_default}
-use Rattle.bank.specs.declared.fault.BankFault.TheVariants.{Idle}
+use Rattle.bank.specs.declared.bank_fault.BankFault.TheVariants.{Idle}
 use Rattle.bank.specs.declared.parts.RecordedSkill.{RecordedSkill}
 use Rattle.bank.specs.Skills.{halt_reply, struck, with_given}
 use Rattle.bank.specs.Recording.{recorded_skill, rows_of}

@@ -1,6 +1,6 @@
 use Rattle.std.proofs.Common.{cond, get_or, Some, None, Ok, Err, sym, refl, ap, ◌∙◌, arith}
 use Rattle.std.proofs.lemmas.List.{get_or_default}
-use Rattle.bank.specs.declared.fault.BankFault.TheVariants.{Running}
+use Rattle.bank.specs.declared.bank_fault.BankFault.TheVariants.{Running}
 use Rattle.bank.specs.declared.parts.RecordedSkill.{RecordedSkill}
 use Rattle.bank.specs.Skills.{start_reply, started, with_given}
 use Rattle.bank.specs.Recording.{recorded_skill, rows_of}

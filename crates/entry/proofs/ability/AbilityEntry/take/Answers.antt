@@ -4,9 +4,6 @@ use Rattle.entry.specs.Abilities.{gain}
 use Rattle.entry.proofs.Making.{ability_there, ability_out}
 use Rattle.entry.proofs.ability.AbilityEntry.take.Goals as goal
 
-pub invariant-of-result : goal.invariant-of-result
-invariant-of-result c = (omega arith, (omega arith, (omega (arith, ints), (omega (arith, ints), tt))))
-
 pub returns : goal.returns
 returns c =
     let a = c.args.self in

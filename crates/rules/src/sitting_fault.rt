@@ -1,10 +1,10 @@
 // Why a sitting refuses a call.
 ghost use Rattle.std.specs.Prelude.{◌≡◌};
 ghost use Rattle.rules.specs.Faults.{number as number_of_lem, layer as layer_of, line as line_of};
-ghost use Rattle.rules.specs.declared.fault.SittingFault.TheVariants.{Bank as ABank, Board as ABoard};
+ghost use Rattle.rules.specs.declared.sitting_fault.SittingFault.TheVariants.{Bank as ABank, Board as ABoard};
 
-use bank::fault::BankFault;
-use board::fault::BoardFault;
+use bank::bank_fault::BankFault;
+use board::board_fault::BoardFault;
 use fault::layer::Layer;
 use fault::refusal::Refusal;
 

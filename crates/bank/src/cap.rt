@@ -4,8 +4,8 @@ ghost use Rattle.std.proofs.Common.{arith};
 ghost use Rattle.bank.specs.Caps.{caps_length};
 ghost use Rattle.bank.specs.CapSounds.{caps_sound};
 
-use crate::banks::Bank;
 use crate::bank_fault::BankFault;
+use crate::banks::Bank;
 use crate::kinds::{Ending, Reply};
 use crate::parts::Cap;
 

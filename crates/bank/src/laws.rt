@@ -6,8 +6,8 @@ ghost use Rattle.bank.specs.Pairing.{paired};
 ghost use Rattle.bank.specs.Skills.{asked, leaves, start_reply, poll_reply, halt_reply, started, polled, struck};
 ghost use Rattle.bank.specs.declared.bank_fault.BankFault.TheVariants.{OutOfRange};
 
-use crate::banks::Bank;
 use crate::bank_fault::BankFault;
+use crate::banks::Bank;
 use crate::kinds::Reply;
 use crate::making_cap::CapRefused;
 use crate::pair::PairRefused;

@@ -1,9 +1,9 @@
 // Skill banks: the interface, and the banks.
 #![tactic(auto)]
 
+pub mod bank_fault;
 pub mod banks;
 pub mod cap;
-pub mod bank_fault;
 pub mod given_take;
 pub mod kinds;
 pub mod laws;

@@ -4,8 +4,8 @@ ghost use Rattle.bank.specs.Capping.{capped_skills, halted, shortened};
 ghost use Rattle.bank.specs.Skills.{no_skill};
 ghost use Rattle.bank.specs.declared.bank_fault.BankFault.TheVariants.{OutOfRange};
 
-use crate::banks::Bank;
 use crate::bank_fault::BankFault;
+use crate::banks::Bank;
 use crate::parts::Cap;
 
 // A limit out of range, and the bank handed back.

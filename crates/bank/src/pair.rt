@@ -5,8 +5,8 @@ ghost use Rattle.bank.specs.declared.bank_fault.BankFault.TheVariants.{OutOfRang
 ghost use Rattle.std.proofs.Common.{arith};
 ghost use Rattle.bank.specs.Pairs.{paired_width, paired_sound};
 
-use crate::banks::Bank;
 use crate::bank_fault::BankFault;
+use crate::banks::Bank;
 use crate::kinds::Reply;
 use crate::parts::Pair;
 

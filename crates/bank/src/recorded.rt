@@ -6,8 +6,8 @@ ghost use Rattle.bank.specs.Rolls.{recorded_width};
 ghost use Rattle.bank.specs.RecordSounds.{recorded_sound};
 ghost use Rattle.bank.specs.Sounds.{map_sound};
 
-use crate::banks::Bank;
 use crate::bank_fault::BankFault;
+use crate::banks::Bank;
 use crate::kinds::{Ending, Reply};
 use crate::parts::{GivenTake, Recorded, RecordedSkill};
 

@@ -1,5 +1,5 @@
-use crate::banks::Bank;
 use crate::bank_fault::BankFault;
+use crate::banks::Bank;
 use crate::kinds::{Ending, Reply};
 use crate::parts::{Cap, GivenTake, Pair, Recorded, Timed, Timing};
 use fault::layer::Layer;

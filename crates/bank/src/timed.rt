@@ -6,8 +6,8 @@ ghost use Rattle.std.proofs.Common.{arith};
 ghost use Rattle.bank.specs.Rows.{rows_length};
 ghost use Rattle.bank.specs.Sounds.{map_sound};
 
-use crate::banks::Bank;
 use crate::bank_fault::BankFault;
+use crate::banks::Bank;
 use crate::kinds::{Ending, Reply};
 use crate::parts::{Timed, TimedSkill, Timing};
 

@@ -11,7 +11,7 @@ pub loop-k-preserved : goal.loop-k-preserved
 loop-k-preserved g c =
     let l = g.B.Bank.skills c.args.below.now in
     let k = c.loop-k.k in
-    c.halt-if-running.ensures ∙ ap (λ t. set t k (halted (get_or t k no_skill))) c.loop-k.invariant ∙ halted_more l k
+    c.halt_if_running.ensures ∙ ap (λ t. set t k (halted (get_or t k no_skill))) c.loop-k.invariant ∙ halted_more l k
 
 pub returns : goal.returns
 returns g c =

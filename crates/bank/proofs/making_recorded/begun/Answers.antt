@@ -11,7 +11,7 @@ loop-k-preserved c =
     let t = c.loop-k.table in
     let k = c.loop-k.k in (
       length-set t k _ ∙ c.loop-k.invariant.0,
-      begun_more c.args.takes.now t k _ (omega (arith, c.loop-k.invariant.0)) c.idle-from.ensures c.loop-k.invariant.1,
+      begun_more c.args.takes.now t k _ (omega (arith, c.loop-k.invariant.0)) c.idle_from.ensures c.loop-k.invariant.1,
     )
 
 pub returns : goal.returns

@@ -48,18 +48,18 @@ returns-then-s-eq0 c =
     let e = ap (λ xs. option_map kept (valued xs)) (sym (nil_from_length s (omega arith))) in
     record { reads = e; numeral = read_as s None e }
 
-pub returns-in-err-n : goal.returns-in-err-n
+pub returns-in_err-n : goal.returns-in_err-n
 unfolding below
-returns-in-err-n c =
+returns-in_err-n c =
     let s = c.args.s.now in
-    let e = c.from-residual.ensures ∙ ap below c.in-err-n.ensures.value ∙ sym (at_minus s (omega arith) c.if-s-eq45.true) in
+    let e = c.from_residual.ensures ∙ ap below c.in_err-n.ensures.value ∙ sym (at_minus s (omega arith) c.if-s-eq45.true) in
     record { reads = e; numeral = read_as s _ e }
 
 pub returns-then-s-eq45 : goal.returns-then-s-eq45
 returns-then-s-eq45 c =
     let s = c.args.s.now in
-    let r = c.in-ok-n.ensures in
-    let e = minus_is c.in-ok-n.n r.range.0 r.range.1 ∙ ap below r.value ∙ sym (at_minus s (omega arith) c.if-s-eq45.true) in
+    let r = c.in_ok-n.ensures in
+    let e = minus_is c.in_ok-n.n r.range.0 r.range.1 ∙ ap below r.value ∙ sym (at_minus s (omega arith) c.if-s-eq45.true) in
     record { reads = e; numeral = read_as s _ e }
 
 pub returns-then-s-eq1 : goal.returns-then-s-eq1
@@ -75,18 +75,18 @@ returns-else-s-eq1 c =
     let e = sym (at_nought s (omega arith) c.if-s-eq48.true ∙ ap (option_map kept) (longer s (omega arith))) in
     record { reads = e; numeral = read_as s None e }
 
-pub returns-in-err-n-2 : goal.returns-in-err-n-2
-returns-in-err-n-2 c =
+pub returns-in_err-n-2 : goal.returns-in_err-n-2
+returns-in_err-n-2 c =
     let s = c.args.s.now in
-    let e = c.from-residual-in-err-n-2.ensures ∙ ap (option_map pos) c.in-err-n-2.ensures.value ∙ sym (at_other s (omega arith) c.if-s-eq45.false c.if-s-eq48.false) in
+    let e = c.from_residual-in_err-n-2.ensures ∙ ap (option_map pos) c.in_err-n-2.ensures.value ∙ sym (at_other s (omega arith) c.if-s-eq45.false c.if-s-eq48.false) in
     record { reads = e; numeral = read_as s _ e }
 
 pub returns : goal.returns
 returns c =
     let s = c.args.s.now in
-    let r = c.in-ok-n-2.ensures in
+    let r = c.in_ok-n-2.ensures in
     let lo = r.range.0 in
     let hi = r.range.1 in
-    let z : to_z w32 c.in-ok-n-2.n ≡ pos c.in-ok-n-2.n = omega (arith, ints) in
+    let z : to_z w32 c.in_ok-n-2.n ≡ pos c.in_ok-n-2.n = omega (arith, ints) in
     let e = ap Some z ∙ ap (option_map pos) r.value ∙ sym (at_other s (omega arith) c.if-s-eq45.false c.if-s-eq48.false) in
     record { reads = e; numeral = read_as s _ e }

@@ -9,12 +9,15 @@ returns-then-not-fits c = (refl, sym c.if-not-fits.ensures)
 pub copied-requires : goal.copied-requires
 copied-requires c = short c.args.width c.args.takes.now (sym c.if-not-fits.ensures)
 
-pub invariant-of-result : goal.invariant-of-result
-invariant-of-result c =
-    let e = sym c.if-not-fits.ensures in (
-      short c.args.width c.args.takes.now e,
-      (c.copied.ensures.whole, (narrow c.args.width c.args.takes.now e, (c.begun.ensures.whole, tt))),
-    )
+pub invariant_of-result : goal.invariant_of-result
+invariant_of-result c =
+    let e = sym c.if-not-fits.ensures in
+    record {
+      fits = short c.args.width c.args.takes.now e;
+      whole = c.copied.ensures.whole;
+      few = narrow c.args.width c.args.takes.now e;
+      full = c.begun.ensures.whole;
+    }
 
 pub returns : goal.returns
 returns c =

@@ -11,10 +11,10 @@ use Rattle.bank.proofs.recorded.RecordedBank.halt.Goals as goal
 pub returns-then-k-self : goal.returns-then-k-self
 returns-then-k-self c = record { answer = recorded_out c.args.self.now c.args.k halt_reply c.if-k-self.true; after = refl }
 
-pub returns-then-is-none : goal.returns-then-is-none
-returns-then-is-none c =
+pub returns-then-is_none : goal.returns-then-is_none
+returns-then-is_none c =
     record {
-      answer = recorded_in c.args.self.now c.args.k halt_reply _ c.index-self-k.result c.if-k-self.false (ap (λ b. cond b (Ok tt) (Err Idle)) c.if-is-none.ensures);
+      answer = recorded_in c.args.self.now c.args.k halt_reply _ c.index-self-k.result c.if-k-self.false (ap (λ b. cond b (Ok tt) (Err Idle)) c.if-is_none.ensures);
       after = refl;
     }
 
@@ -23,8 +23,8 @@ returns c =
     let b = c.args.self.now in
     let e = get_or b.table c.args.k c.index-self-k.result in
     record {
-      answer = recorded_in b c.args.k halt_reply _ c.index-self-k.result c.if-k-self.false (ap (λ t. cond t (Ok tt) (Err Idle)) c.if-is-none.ensures);
+      answer = recorded_in b c.args.k halt_reply _ c.index-self-k.result c.if-k-self.false (ap (λ t. cond t (Ok tt) (Err Idle)) c.if-is_none.ensures);
       after =
           recorded_set b c.args.k struck c.index-self-k.result _ c.if-k-self.false
-          (struck_later (rows_of b) _ e c.idle-from-later.result (ap (λ n. take n b.rows) (omega arith)) c.idle-from-later.ensures);
+          (struck_later (rows_of b) _ e c.idle_from-later.result (ap (λ n. take n b.rows) (omega arith)) c.idle_from-later.ensures);
     }

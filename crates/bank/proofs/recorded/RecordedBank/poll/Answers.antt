@@ -11,11 +11,11 @@ use Rattle.bank.proofs.recorded.RecordedBank.poll.Goals as goal
 pub returns-then-k-self : goal.returns-then-k-self
 returns-then-k-self c = record { answer = recorded_out c.args.self.now c.args.k poll_reply c.if-k-self.true; after = refl }
 
-pub returns-in-default : goal.returns-in-default
-returns-in-default c =
+pub returns-in_default : goal.returns-in_default
+returns-in_default c =
     let e = get_or c.args.self.now.table c.args.k c.index-self-at.result in
     record {
-      answer = recorded_in c.args.self.now c.args.k poll_reply _ c.index-self-at.result c.if-k-self.false (poll_idle (recorded_skill (rows_of c.args.self.now) e) c.in-default.is);
+      answer = recorded_in c.args.self.now c.args.k poll_reply _ c.index-self-at.result c.if-k-self.false (poll_idle (recorded_skill (rows_of c.args.self.now) e) c.in_default.is);
       after = refl;
     }
 
@@ -37,5 +37,5 @@ returns c =
       answer = recorded_in b c.args.k poll_reply _ c.index-self-at.result c.if-k-self.false (p.0 ∙ search rules);
       after =
           recorded_set b c.args.k polled c.index-self-at.result _ c.if-k-self.false
-          (p.1 ∙ struck_later (rows_of b) _ e c.idle-from-later.result (ap (λ n. take n b.rows) (omega arith)) c.idle-from-later.ensures);
+          (p.1 ∙ struck_later (rows_of b) _ e c.idle_from-later.result (ap (λ n. take n b.rows) (omega arith)) c.idle_from-later.ensures);
     }

@@ -11,4 +11,4 @@ returns-then-k-self c =
     sym (ap runs_now (get_or_past (recorded_skills b) c.args.k no_skill (omega (arith, recorded_width b c.args.k))))
 
 pub returns : goal.returns
-returns c = c.is-some.ensures ∙ ap runs_now (sym (recorded_at c.args.self.now c.args.k c.index-self-k.result c.if-k-self.false))
+returns c = c.is_some.ensures ∙ ap runs_now (sym (recorded_at c.args.self.now c.args.k c.index-self-k.result c.if-k-self.false))

@@ -10,11 +10,11 @@ use Rattle.bank.proofs.timed.TimedBank.poll.Goals as goal
 pub returns-then-at-self : goal.returns-then-at-self
 returns-then-at-self c = record { answer = timed_out c.args.self.now c.args.k poll_reply c.if-at-self.true; after = refl }
 
-pub returns-in-default : goal.returns-in-default
-returns-in-default c =
+pub returns-in_default : goal.returns-in_default
+returns-in_default c =
     let e = get_or c.args.self.now.table c.args.k c.index-self-at.result in
     record {
-      answer = timed_in c.args.self.now c.args.k poll_reply _ c.index-self-at.result c.if-at-self.false (poll_idle (timed_skill e) c.in-default.is);
+      answer = timed_in c.args.self.now c.args.k poll_reply _ c.index-self-at.result c.if-at-self.false (poll_idle (timed_skill e) c.in_default.is);
       after = refl;
     }
 

@@ -11,4 +11,4 @@ returns-then-k-self c =
     sym (ap runs_now (get_or_past (timed_skills b) c.args.k no_skill (omega (arith, timed_width b c.args.k))))
 
 pub returns : goal.returns
-returns c = c.is-some.ensures ∙ ap runs_now (sym (timed_at c.args.self.now c.args.k c.index-self-k.result c.if-k-self.false))
+returns c = c.is_some.ensures ∙ ap runs_now (sym (timed_at c.args.self.now c.args.k c.index-self-k.result c.if-k-self.false))

@@ -1,7 +1,7 @@
 use Rattle.std.proofs.Common.{sym, ◌∙◌, arith}
 use Rattle.board.proofs.Writing.{written_more, refused_one, refused_none, written_all, refused_all}
 use Rattle.board.proofs.writes.write_all.Goals as goal
-use Rattle.board.proofs.writes.write_all.Goals.{then-is-err, else-is-err}
+use Rattle.board.proofs.writes.write_all.Goals.{then-is_err, else-is_err}
 
 pub loop-write-preserved : goal.loop-write-preserved
 loop-write-preserved g c =
@@ -13,13 +13,13 @@ loop-write-preserved g c =
     let more = c.loop-write-test.true in
     let after = c.write.ensures.after in (
       written_more l ws i m w more c.write-item.is after ∙ c.loop-write.invariant.0,
-      elim c.if-is-err.branch [
-        | then-is-err v ↦
-            omega (arith, v.refused-is, refused_one l ws i m w more c.write-item.is after c.is-err.result c.write.result c.write.ensures.answer c.is-err.ensures.value v.if-is-err.true)
-        | else-is-err v ↦
-            omega (arith, v.refused-is, refused_none l ws i m w more c.write-item.is after c.is-err.result c.write.result c.write.ensures.answer c.is-err.ensures.value v.if-is-err.false)
+      elim c.if-is_err.branch [
+        | then-is_err v ↦
+            omega (arith, v.refused-is, refused_one l ws i m w more c.write-item.is after c.is_err.result c.write.result c.write.ensures.answer c.is_err.ensures.value v.if-is_err.true)
+        | else-is_err v ↦
+            omega (arith, v.refused-is, refused_none l ws i m w more c.write-item.is after c.is_err.result c.write.result c.write.ensures.answer c.is_err.ensures.value v.if-is_err.false)
       ],
-      elim c.if-is-err.branch [ then-is-err v ↦ omega (arith, v.refused-is) | else-is-err v ↦ omega (arith, v.refused-is) ],
+      elim c.if-is_err.branch [ then-is_err v ↦ omega (arith, v.refused-is) | else-is_err v ↦ omega (arith, v.refused-is) ],
     )
 
 pub returns : goal.returns

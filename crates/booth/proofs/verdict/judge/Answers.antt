@@ -9,10 +9,10 @@ front t page rest more n m e p l = ap (take n) (take_at page more m l ∙ p) ∙
 pub returns : goal.returns
 returns c =
     let w = c.in-Ok.ensures.outcome in
-    let long : length c.write.new.page ≡ c.in-ok-page.page.len = search rules in (
+    let long : length c.write.new.page ≡ c.in_ok-page.page.len = search rules in (
       c.read.new.self,
-      c.in-default.ensures.outcome.0,
-      c.truncate.ensures.items ∙ front _ c.write.new.page _ _ c.in-Ok.len c.in-ok-page.page.len w.0 w.2 long,
+      c.in_default.ensures.outcome.0,
+      c.truncate.ensures.items ∙ front _ c.write.new.page _ _ c.in-Ok.len c.in_ok-page.page.len w.0 w.2 long,
       ap length c.nodes.ensures.value,
       c.skills.ensures.count,
     )

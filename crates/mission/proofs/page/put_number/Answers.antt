@@ -10,7 +10,7 @@ returns c =
     let z = c.args.z in
     let label = c.args.label.now in
     record {
-      page = subst (λ x. Laid c.args.page.now c.args.at (label ++ numeral x) c.put-numeral.new.page c.put-numeral.result) (to_z-of_z w32 z c.ranges.z)
-          (laid_then label (numeral (to_z w32 (of_z w32 z))) c.put-next.ensures c.put-numeral.ensures.page);
-      short = let a = c.put-next.ensures.place in let b = c.put-numeral.ensures.short in omega arith;
+      page = subst (λ x. Laid c.args.page.now c.args.at (label ++ numeral x) c.put_numeral.new.page c.put_numeral.result) (to_z-of_z w32 z c.ranges.z)
+          (laid_then label (numeral (to_z w32 (of_z w32 z))) c.put-next.ensures c.put_numeral.ensures.page);
+      short = let a = c.put-next.ensures.place in let b = c.put_numeral.ensures.short in omega arith;
     }

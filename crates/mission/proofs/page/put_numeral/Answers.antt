@@ -34,7 +34,7 @@ returns-then-z-lt0 c =
     let lt : z <ℤ pos 0 = grind (arith, ints) in
     let i = c.spell-i.result in
     let row = c.spell-i.new.row in
-    let p = part row i c.unsigned-abs.result (nat_abs z) c.spell-i.array_long c.spell-i.ensures.digits (c.unsigned-abs.ensures.value ∙ ap nat_abs same) (above z c.if-z-eq0.false) in
+    let p = part row i c.unsigned_abs.result (nat_abs z) c.spell-i.array_long c.spell-i.ensures.digits (c.unsigned_abs.ensures.value ∙ ap nat_abs same) (above z c.if-z-eq0.false) in
     let k = length-take (11 - i) (drop i row) in
     record {
       page = subst (λ bs. Laid c.args.page.now c.args.at bs c.put-then-z-lt0.new.page c.put-then-z-lt0.result) (ap (λ bs. 45 ∷ bs) p ∙ sym (numeral_minus z lt))
@@ -49,7 +49,7 @@ returns c =
     let ge : pos 0 ≤ℤ z = grind (arith, ints) in
     let i = c.spell-i.result in
     let row = c.spell-i.new.row in
-    let p = part row i c.unsigned-abs.result (nat_abs z) c.spell-i.array_long c.spell-i.ensures.digits (c.unsigned-abs.ensures.value ∙ ap nat_abs same) (above z c.if-z-eq0.false) in
+    let p = part row i c.unsigned_abs.result (nat_abs z) c.spell-i.array_long c.spell-i.ensures.digits (c.unsigned_abs.ensures.value ∙ ap nat_abs same) (above z c.if-z-eq0.false) in
     let k = length-take (11 - i) (drop i row) in
     record {
       page = subst (λ bs. Laid c.args.page.now c.args.at bs c.put-2.new.page c.put-2.result) (p ∙ sym (numeral_plus z ge)) c.put-2.ensures;

@@ -12,8 +12,8 @@ loop-left-init c = (
   ap (λ xs. digits_text c.args.n ++ xs) (drop_all 11 c.args.row.now (omega arith)) ∙ append-nil _,
 )
 
-pub overflow-sub-i : goal.overflow-sub-i
-overflow-sub-i c = let l = length-digits_of_step 10 c.loop-left.left (omega arith) c.loop-left-test.true in omega arith
+pub overflow_sub-i : goal.overflow_sub-i
+overflow_sub-i c = let l = length-digits_of_step 10 c.loop-left.left (omega arith) c.loop-left-test.true in omega arith
 
 pub loop-left-preserved : goal.loop-left-preserved
 loop-left-preserved c =

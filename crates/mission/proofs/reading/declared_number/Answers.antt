@@ -12,11 +12,11 @@ returns-in-Some c =
     let lo = c.args.low in
     let hi = c.args.high in
     let fit : SFits w32 z = search rules in
-    judged_number c.args.name.now c.args.text.now lo hi z c.in-span.result (omega arith)
+    judged_number c.args.name.now c.args.text.now lo hi z c.in_span.result (omega arith)
     (c.in-Some.ensures ∙ ap (one_ended c.args.name.now) c.of.ensures.rest)
     (subst
-    (λ x. MatchResult c.in-span.result (λ n. (pos n ≡ x) × (within (pos lo) (pos hi) x ≡ true)) (λ e. (e ≡ Range) × (within (pos lo) (pos hi) x ≡ false)))
-    (to_z-of_z w32 z fit) c.in-span.ensures)
+    (λ x. MatchResult c.in_span.result (λ n. (pos n ≡ x) × (within (pos lo) (pos hi) x ≡ true)) (λ e. (e ≡ Range) × (within (pos lo) (pos hi) x ≡ false)))
+    (to_z-of_z w32 z fit) c.in_span.ensures)
 
 pub returns-in-None : goal.returns-in-None
 returns-in-None c =

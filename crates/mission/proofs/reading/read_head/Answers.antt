@@ -5,7 +5,7 @@ use Rattle.mission.proofs.reading.read_head.Goals as goal
 
 pub returns-then-same : goal.returns-then-same
 returns-then-same c =
-    let l = c.in-ok-head.head.now in
-    let after = c.in-ok-head.after.now in
-    parted_sound 10 c.args.text.now (l, after) c.in-ok-head.ensures
+    let l = c.in_ok-head.head.now in
+    let after = c.in_ok-head.after.now in
+    parted_sound 10 c.args.text.now (l, after) c.in_ok-head.ensures
     ∙ ap (λ y. y ++ (10 ∷ after)) ((bytes_eq-Decides l (codes "mission=1")).0 (sym c.if-same.ensures))

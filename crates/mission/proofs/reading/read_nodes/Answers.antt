@@ -10,14 +10,14 @@ loop-i-preserved c =
     let start = c.args.start.now in
     let i = c.loop-i.i in
     let nodes = c.loop-i.nodes in
-    let n = c.in-ok-nodes.field-0 in
-    let l = c.in-ok-text.text.now in
-    let after = c.in-ok-text.after.now in
+    let n = c.in_ok-nodes.field-0 in
+    let l = c.in_ok-text.text.now in
+    let after = c.in_ok-text.after.now in
     let long = c.loop-i.invariant.0 in
-    let got = c.in-ok-nodes.ensures in (
+    let got = c.in_ok-nodes.ensures in (
       length-set nodes i n ∙ long,
       subst (λ ns. Taken start ns after) (sym (take_more_set nodes i n (omega arith)))
-          (taken_push start (take i nodes) n c.loop-i.rest.now l after c.loop-i.invariant.1 (parted_sound 10 c.loop-i.rest.now (l, after) c.in-ok-text.ensures) got.0 got.1),
+          (taken_push start (take i nodes) n c.loop-i.rest.now l after c.loop-i.invariant.1 (parted_sound 10 c.loop-i.rest.now (l, after) c.in_ok-text.ensures) got.0 got.1),
     )
 
 pub returns : goal.returns

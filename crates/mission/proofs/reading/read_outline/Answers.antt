@@ -13,40 +13,40 @@ use Rattle.mission.proofs.reading.read_outline.Goals as goal
 handed : (t : List ℕ) (r : Result Outline LineFault) (f : LineFault) → (x : LineFault) × (r ≡ Err x) × (x ≡ f) → Caught t f → MatchResult r (λ o. t ≡ text (shape o)) (λ f. Caught t f)
 handed t r f p h = subst (λ q. MatchResult q (λ o. t ≡ text (shape o)) (λ f. Caught t f)) (sym p.1) (subst (Caught t) (sym p.2) h)
 
-pub returns-in-err-rest : goal.returns-in-err-rest
-returns-in-err-rest c =
+pub returns-in_err-rest : goal.returns-in_err-rest
+returns-in_err-rest c =
     let t = c.args.text.now in
-    let w = c.in-err-rest.ensures in
-    handed t c.from-residual.result _ (err_from_is_err_and c.from-residual.result c.from-residual.ensures.1) (flaw_0 t _ w.0 w.1)
+    let w = c.in_err-rest.ensures in
+    handed t c.from_residual.result _ (err_from_is_err_and c.from_residual.result c.from_residual.ensures.1) (flaw_0 t _ w.0 w.1)
 
-pub returns-in-err-counts : goal.returns-in-err-counts
-returns-in-err-counts c =
+pub returns-in_err-counts : goal.returns-in_err-counts
+returns-in_err-counts c =
     let t = c.args.text.now in
-    let w = c.in-err-counts.ensures in
-    let h = head_1 t c.in-ok-rest.rest.now c.in-ok-rest.ensures in
-    handed t c.from-residual-in-err-counts.result _ (err_from_is_err_and c.from-residual-in-err-counts.result c.from-residual-in-err-counts.ensures.1) (flaw_1 t c.in-ok-rest.rest.now _ h w.0 w.1)
+    let w = c.in_err-counts.ensures in
+    let h = head_1 t c.in_ok-rest.rest.now c.in_ok-rest.ensures in
+    handed t c.from_residual-in_err-counts.result _ (err_from_is_err_and c.from_residual-in_err-counts.result c.from_residual-in_err-counts.ensures.1) (flaw_1 t c.in_ok-rest.rest.now _ h w.0 w.1)
 
-pub returns-in-err-abilities : goal.returns-in-err-abilities
-returns-in-err-abilities c =
+pub returns-in_err-abilities : goal.returns-in_err-abilities
+returns-in_err-abilities c =
     let t = c.args.text.now in
-    let w = c.in-err-abilities.ensures in
-    let h₁ = head_1 t c.in-ok-rest.rest.now c.in-ok-rest.ensures in
-    let a = c.in-ok-counts.ensures in
-    let h₂ = head_2 t c.in-ok-rest.rest.now c.in-ok-counts.rest.now c.in-ok-counts.counts h₁ a.0 a.1 in
-    handed t c.from-residual-in-err-abilities.result _ (err_from_is_err_and c.from-residual-in-err-abilities.result c.from-residual-in-err-abilities.ensures.1)
-    (flaw_2 t c.in-ok-counts.rest.now c.in-ok-counts.counts _ h₂ w.0 w.1)
+    let w = c.in_err-abilities.ensures in
+    let h₁ = head_1 t c.in_ok-rest.rest.now c.in_ok-rest.ensures in
+    let a = c.in_ok-counts.ensures in
+    let h₂ = head_2 t c.in_ok-rest.rest.now c.in_ok-counts.rest.now c.in_ok-counts.counts h₁ a.0 a.1 in
+    handed t c.from_residual-in_err-abilities.result _ (err_from_is_err_and c.from_residual-in_err-abilities.result c.from_residual-in_err-abilities.ensures.1)
+    (flaw_2 t c.in_ok-counts.rest.now c.in_ok-counts.counts _ h₂ w.0 w.1)
 
-pub returns-in-err-len : goal.returns-in-err-len
-returns-in-err-len c =
+pub returns-in_err-len : goal.returns-in_err-len
+returns-in_err-len c =
     let t = c.args.text.now in
-    let w = c.in-err-len.ensures in
-    let h₁ = head_1 t c.in-ok-rest.rest.now c.in-ok-rest.ensures in
-    let a = c.in-ok-counts.ensures in
-    let h₂ = head_2 t c.in-ok-rest.rest.now c.in-ok-counts.rest.now c.in-ok-counts.counts h₁ a.0 a.1 in
-    let b = c.in-ok-abilities.ensures in
-    let h₃ = head_3 t c.in-ok-counts.rest.now c.in-ok-abilities.rest.now c.in-ok-counts.counts c.in-ok-abilities.abilities h₂ b.0 b.1 in
-    handed t c.from-residual-in-err-len.result _ (err_from_is_err_and c.from-residual-in-err-len.result c.from-residual-in-err-len.ensures.1)
-    (flaw_3 t c.in-ok-abilities.rest.now c.in-ok-counts.counts c.in-ok-abilities.abilities _ h₃ w.0 w.1)
+    let w = c.in_err-len.ensures in
+    let h₁ = head_1 t c.in_ok-rest.rest.now c.in_ok-rest.ensures in
+    let a = c.in_ok-counts.ensures in
+    let h₂ = head_2 t c.in_ok-rest.rest.now c.in_ok-counts.rest.now c.in_ok-counts.counts h₁ a.0 a.1 in
+    let b = c.in_ok-abilities.ensures in
+    let h₃ = head_3 t c.in_ok-counts.rest.now c.in_ok-abilities.rest.now c.in_ok-counts.counts c.in_ok-abilities.abilities h₂ b.0 b.1 in
+    handed t c.from_residual-in_err-len.result _ (err_from_is_err_and c.from_residual-in_err-len.result c.from_residual-in_err-len.ensures.1)
+    (flaw_3 t c.in_ok-abilities.rest.now c.in_ok-counts.counts c.in_ok-abilities.abilities _ h₃ w.0 w.1)
 
 -- all of the nodes were read
 whole : (t start : List ℕ) (a b n : ℕ) (o : Outline) → Head4 t a b n start → (o.counts ≡ a) × (o.abilities ≡ b) × (o.len ≡ n) × Taken start (shape o).nodes [] → t ≡ text (shape o)
@@ -57,13 +57,13 @@ whole t start a b n o h k =
 pub returns : goal.returns
 returns c =
     let t = c.args.text.now in
-    let h₁ = head_1 t c.in-ok-rest.rest.now c.in-ok-rest.ensures in
-    let a = c.in-ok-counts.ensures in
-    let h₂ = head_2 t c.in-ok-rest.rest.now c.in-ok-counts.rest.now c.in-ok-counts.counts h₁ a.0 a.1 in
-    let b = c.in-ok-abilities.ensures in
-    let h₃ = head_3 t c.in-ok-counts.rest.now c.in-ok-abilities.rest.now c.in-ok-counts.counts c.in-ok-abilities.abilities h₂ b.0 b.1 in
-    let n = c.in-ok-len.ensures in
-    let h₄ = head_4 t c.in-ok-abilities.rest.now c.in-ok-len.rest.now c.in-ok-counts.counts c.in-ok-abilities.abilities c.in-ok-len.len h₃ n.0 n.1 in
-    MatchResult-weaker c.read-nodes.result c.read-nodes.ensures
-    (λ o k. whole t c.in-ok-len.rest.now c.in-ok-counts.counts c.in-ok-abilities.abilities c.in-ok-len.len o h₄ k)
-    (λ f s. flaw_later t c.in-ok-len.rest.now c.in-ok-counts.counts c.in-ok-abilities.abilities c.in-ok-len.len f h₄ s)
+    let h₁ = head_1 t c.in_ok-rest.rest.now c.in_ok-rest.ensures in
+    let a = c.in_ok-counts.ensures in
+    let h₂ = head_2 t c.in_ok-rest.rest.now c.in_ok-counts.rest.now c.in_ok-counts.counts h₁ a.0 a.1 in
+    let b = c.in_ok-abilities.ensures in
+    let h₃ = head_3 t c.in_ok-counts.rest.now c.in_ok-abilities.rest.now c.in_ok-counts.counts c.in_ok-abilities.abilities h₂ b.0 b.1 in
+    let n = c.in_ok-len.ensures in
+    let h₄ = head_4 t c.in_ok-abilities.rest.now c.in_ok-len.rest.now c.in_ok-counts.counts c.in_ok-abilities.abilities c.in_ok-len.len h₃ n.0 n.1 in
+    MatchResult-weaker c.read_nodes.result c.read_nodes.ensures
+    (λ o k. whole t c.in_ok-len.rest.now c.in_ok-counts.counts c.in_ok-abilities.abilities c.in_ok-len.len o h₄ k)
+    (λ f s. flaw_later t c.in_ok-len.rest.now c.in_ok-counts.counts c.in_ok-abilities.abilities c.in_ok-len.len f h₄ s)

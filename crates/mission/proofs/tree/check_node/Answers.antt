@@ -17,12 +17,12 @@ long o = length-take-le o.len o.nodes (let f = o.fits in let t = o.table in omeg
 open_test : (o : Outline) (i : ℕ) (alone : Bool) (n : Node) (t : Bool) → t ≡ (eqb (i + 1) o.len && (not alone || ltb 0 (arity n))) → leaves i (length (shape o).nodes) alone n ≡ t
 open_test o i alone n t e = ap (λ l. leaves i l alone n) (long o) ∙ sym e
 
-pub returns-then-leaves-open : goal.returns-then-leaves-open
-returns-then-leaves-open c =
+pub returns-then-leaves_open : goal.returns-then-leaves_open
+returns-then-leaves_open c =
     let o = c.args.outline.now in
     let i = c.args.at in
     let n = c.node-node.result in (
-      unplaced (shape o) n c.requires.reading c.node-node.ensures (open_test o i c.args.alone n true c.if-leaves-open.ensures),
+      unplaced (shape o) n c.requires.reading c.node-node.ensures (open_test o i c.args.alone n true c.if-leaves_open.ensures),
       none_below (shape o) i 3 (λ h. absurd (omega arith)) (λ h. absurd (omega arith)) (λ h. absurd (omega arith)) (λ h. absurd (omega arith)) (λ h. absurd (omega arith)),
     )
 
@@ -33,46 +33,46 @@ returns-then-level-gt-LEVELS c =
     let n = c.node-node.result in (
       deep (shape o) c.requires.reading c.if-level-gt-LEVELS.true,
       none_below (shape o) i 4
-          (λ h. placed (shape o) n c.requires.reading c.node-node.ensures (open_test o i c.args.alone n false c.if-leaves-open.ensures))
+          (λ h. placed (shape o) n c.requires.reading c.node-node.ensures (open_test o i c.args.alone n false c.if-leaves_open.ensures))
           (λ h. absurd (omega arith)) (λ h. absurd (omega arith)) (λ h. absurd (omega arith)) (λ h. absurd (omega arith)),
     )
 
-pub returns-then-named-before : goal.returns-then-named-before
-returns-then-named-before c =
+pub returns-then-named_before : goal.returns-then-named_before
+returns-then-named_before c =
     let o = c.args.outline.now in
     let i = c.args.at in
     let n = c.node-node.result in (
-      again (shape o) n o.in_range c.requires.reading c.node-node.ensures (sym c.if-named-before.ensures),
+      again (shape o) n o.in_range c.requires.reading c.node-node.ensures (sym c.if-named_before.ensures),
       none_below (shape o) i 5
-          (λ h. placed (shape o) n c.requires.reading c.node-node.ensures (open_test o i c.args.alone n false c.if-leaves-open.ensures))
+          (λ h. placed (shape o) n c.requires.reading c.node-node.ensures (open_test o i c.args.alone n false c.if-leaves_open.ensures))
           (λ h. shallow (shape o) c.requires.reading c.if-level-gt-LEVELS.false)
           (λ h. absurd (omega arith)) (λ h. absurd (omega arith)) (λ h. absurd (omega arith)),
     )
 
-pub returns-then-key-beyond : goal.returns-then-key-beyond
-returns-then-key-beyond c =
+pub returns-then-key_beyond : goal.returns-then-key_beyond
+returns-then-key_beyond c =
     let o = c.args.outline.now in
     let i = c.args.at in
     let n = c.node-node.result in (
-      subst (Beyond (shape o)) c.node-node.ensures (c.if-key-beyond.ensures.0 refl),
+      subst (Beyond (shape o)) c.node-node.ensures (c.if-key_beyond.ensures.0 refl),
       none_below (shape o) i 6
-          (λ h. placed (shape o) n c.requires.reading c.node-node.ensures (open_test o i c.args.alone n false c.if-leaves-open.ensures))
+          (λ h. placed (shape o) n c.requires.reading c.node-node.ensures (open_test o i c.args.alone n false c.if-leaves_open.ensures))
           (λ h. shallow (shape o) c.requires.reading c.if-level-gt-LEVELS.false)
-          (λ h. once (shape o) n o.in_range c.requires.reading c.node-node.ensures (sym c.if-named-before.ensures))
+          (λ h. once (shape o) n o.in_range c.requires.reading c.node-node.ensures (sym c.if-named_before.ensures))
           (λ h. absurd (omega arith)) (λ h. absurd (omega arith)),
     )
 
-pub returns-then-needs-too-many : goal.returns-then-needs-too-many
-returns-then-needs-too-many c =
+pub returns-then-needs_too_many : goal.returns-then-needs_too_many
+returns-then-needs_too_many c =
     let o = c.args.outline.now in
     let i = c.args.at in
     let n = c.node-node.result in (
-      subst Overneeds c.node-node.ensures (c.if-needs-too-many.ensures.0 refl),
+      subst Overneeds c.node-node.ensures (c.if-needs_too_many.ensures.0 refl),
       none_below (shape o) i 7
-          (λ h. placed (shape o) n c.requires.reading c.node-node.ensures (open_test o i c.args.alone n false c.if-leaves-open.ensures))
+          (λ h. placed (shape o) n c.requires.reading c.node-node.ensures (open_test o i c.args.alone n false c.if-leaves_open.ensures))
           (λ h. shallow (shape o) c.requires.reading c.if-level-gt-LEVELS.false)
-          (λ h. once (shape o) n o.in_range c.requires.reading c.node-node.ensures (sym c.if-named-before.ensures))
-          (λ h b. not_from_Decides _ c.key-beyond.ensures c.if-key-beyond.false (subst (Beyond (shape o)) (sym c.node-node.ensures) b))
+          (λ h. once (shape o) n o.in_range c.requires.reading c.node-node.ensures (sym c.if-named_before.ensures))
+          (λ h b. not_from_Decides _ c.key_beyond.ensures c.if-key_beyond.false (subst (Beyond (shape o)) (sym c.node-node.ensures) b))
           (λ h. absurd (omega arith)),
     )
 
@@ -83,9 +83,9 @@ returns c =
     let n = c.node-node.result in
     λ b.
     none_below (shape o) i 8
-    (λ h. placed (shape o) n c.requires.reading c.node-node.ensures (open_test o i c.args.alone n false c.if-leaves-open.ensures))
+    (λ h. placed (shape o) n c.requires.reading c.node-node.ensures (open_test o i c.args.alone n false c.if-leaves_open.ensures))
     (λ h. shallow (shape o) c.requires.reading c.if-level-gt-LEVELS.false)
-    (λ h. once (shape o) n o.in_range c.requires.reading c.node-node.ensures (sym c.if-named-before.ensures))
-    (λ h b. not_from_Decides _ c.key-beyond.ensures c.if-key-beyond.false (subst (Beyond (shape o)) (sym c.node-node.ensures) b))
-    (λ h b. not_from_Decides _ c.needs-too-many.ensures c.if-needs-too-many.false (subst Overneeds (sym c.node-node.ensures) b))
+    (λ h. once (shape o) n o.in_range c.requires.reading c.node-node.ensures (sym c.if-named_before.ensures))
+    (λ h b. not_from_Decides _ c.key_beyond.ensures c.if-key_beyond.false (subst (Beyond (shape o)) (sym c.node-node.ensures) b))
+    (λ h b. not_from_Decides _ c.needs_too_many.ensures c.if-needs_too_many.false (subst Overneeds (sym c.node-node.ensures) b))
     b (below_eight b)

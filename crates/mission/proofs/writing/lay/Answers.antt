@@ -13,7 +13,7 @@ use Rattle.mission.proofs.Runs.{shape_long}
 use Rattle.mission.proofs.writing.lay.Goals as goal
 
 pub loop-i-init : goal.loop-i-init
-loop-i-init c = (laid_none c.put-head-at.new.page c.put-head-at.result, (let s = c.put-head-at.ensures.short in omega arith))
+loop-i-init c = (laid_none c.put_head-at.new.page c.put_head-at.result, (let s = c.put_head-at.ensures.short in omega arith))
 
 -- one line more
 more : (ns : List Node) (i : ℕ) (n : Node) → i < length ns → n ≡ node_at ns i → ended (map node_line (take i ns)) ++ (node_line n ++ end) ≡ ended (map node_line (take (i + 1) ns))
@@ -28,10 +28,10 @@ loop-i-preserved c =
     let ns = (shape o).nodes in
     let i = c.loop-i.i in
     let l = shape_long o in (
-      subst (λ bs. Laid c.put-head-at.new.page c.put-head-at.result bs c.put-node-at.new.page c.put-node-at.result)
+      subst (λ bs. Laid c.put_head-at.new.page c.put_head-at.result bs c.put_node-at.new.page c.put_node-at.result)
           (more ns i c.node.result (omega arith) c.node.ensures)
-          (laid_then (ended (map node_line (take i ns))) (node_line c.node.result ++ end) c.loop-i.invariant.0 c.put-node-at.ensures.page),
-      (let s = c.put-node-at.ensures.short in let b = c.loop-i.invariant.1 in omega arith),
+          (laid_then (ended (map node_line (take i ns))) (node_line c.node.result ++ end) c.loop-i.invariant.0 c.put_node-at.ensures.page),
+      (let s = c.put_node-at.ensures.short in let b = c.loop-i.invariant.1 in omega arith),
     )
 
 pub returns : goal.returns
@@ -46,4 +46,4 @@ returns c =
     ∙ sym (append-nil _) ∙ append_assoc (ended heads) (ended (map node_line ns)) [] ∙ ended_append heads (map node_line ns) [] ∙ append-nil _
     ∙ ap (λ n. ended (lines o.counts o.abilities n ns)) (sym l) in
     subst (λ bs. Laid c.args.page.now 0 bs c.loop-i.page c.loop-i.at) is
-    (laid_then (ended heads) (ended (map node_line (take c.loop-i.i ns))) c.put-head-at.ensures.page c.loop-i.invariant.0)
+    (laid_then (ended heads) (ended (map node_line (take c.loop-i.i ns))) c.put_head-at.ensures.page c.loop-i.invariant.0)

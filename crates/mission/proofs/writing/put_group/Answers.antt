@@ -16,16 +16,16 @@ group_short Mfall = omega arith
 
 pub returns : goal.returns
 returns c =
-    let kind = c.group-field.ensures in
+    let kind = c.group_field.ensures in
     record {
       page =
           laid_then (kind_field (KGroup c.args.kind)) _ (subst (λ bs. Laid c.args.page.now c.args.at bs c.put-at.new.page c.put-at.result) kind c.put-at.ensures)
-          (laid_then (codes " kids=" ++ numeral (pos c.args.kids)) (10 ∷ []) c.put-natural-at.ensures.page c.put.ensures);
+          (laid_then (codes " kids=" ++ numeral (pos c.args.kids)) (10 ∷ []) c.put_natural-at.ensures.page c.put.ensures);
       short =
           let a = c.put-at.ensures.place in
           let l = group_short c.args.kind in
           let k = ap length kind in
-          let b = c.put-natural-at.ensures.short in
+          let b = c.put_natural-at.ensures.short in
           let e = c.put.ensures.place in
           omega arith;
     }

@@ -8,7 +8,7 @@ use Rattle.mission.proofs.writing.put_loop.Goals as goal
 
 pub returns : goal.returns
 returns c =
-    let label = c.loop-label.ensures.label in
+    let label = c.loop_label.ensures.label in
     let times = numeral (pos c.args.times) in
     let kind = kind_field (KLoop c.args.kind) in
     record {
@@ -16,7 +16,7 @@ returns c =
           subst (λ bs. Laid c.args.page.now c.args.at bs c.put.new.page c.put.result)
           (append_assoc (kind ++ codes " times=") times (10 ∷ []) ∙ append_assoc kind (codes " times=") (times ++ (10 ∷ [])))
           (laid_then ((kind ++ codes " times=") ++ times) (10 ∷ [])
-          (subst (λ l. Laid c.args.page.now c.args.at (l ++ times) c.put-natural-at.new.page c.put-natural-at.result) label c.put-natural-at.ensures.page)
+          (subst (λ l. Laid c.args.page.now c.args.at (l ++ times) c.put_natural-at.new.page c.put_natural-at.result) label c.put_natural-at.ensures.page)
           c.put.ensures);
-      short = let a = c.put-natural-at.ensures.short in let e = c.put.ensures.place in omega arith;
+      short = let a = c.put_natural-at.ensures.short in let e = c.put.ensures.place in omega arith;
     }

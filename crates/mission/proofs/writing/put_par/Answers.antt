@@ -8,11 +8,11 @@ pub returns : goal.returns
 returns c =
     record {
       page =
-          laid_then (codes "node=par kids=" ++ numeral (pos c.args.kids)) _ c.put-natural-at.ensures.page
-          (laid_then (codes " need=" ++ numeral (pos c.args.need)) (10 ∷ []) c.put-natural-at-2.ensures.page c.put.ensures);
+          laid_then (codes "node=par kids=" ++ numeral (pos c.args.kids)) _ c.put_natural-at.ensures.page
+          (laid_then (codes " need=" ++ numeral (pos c.args.need)) (10 ∷ []) c.put_natural-at-2.ensures.page c.put.ensures);
       short =
-          let a = c.put-natural-at.ensures.short in
-          let b = c.put-natural-at-2.ensures.short in
+          let a = c.put_natural-at.ensures.short in
+          let b = c.put_natural-at-2.ensures.short in
           let e = c.put.ensures.place in
           omega arith;
     }

@@ -11,11 +11,11 @@ pub returns : goal.returns
 returns c =
     record {
       page =
-          laid_then (codes "node=skill skill=" ++ numeral (pos c.args.skill)) _ c.put-natural-at.ensures.page
-          (laid_then (32 ∷ field (codes "device") (or_none (option_map pos c.args.device))) _ c.put-device-at.ensures.page c.put-target.ensures.page);
+          laid_then (codes "node=skill skill=" ++ numeral (pos c.args.skill)) _ c.put_natural-at.ensures.page
+          (laid_then (32 ∷ field (codes "device") (or_none (option_map pos c.args.device))) _ c.put_device-at.ensures.page c.put_target.ensures.page);
       short =
-          let a = c.put-natural-at.ensures.short in
-          let b = c.put-device-at.ensures.short in
-          let e = c.put-target.ensures.short in
+          let a = c.put_natural-at.ensures.short in
+          let b = c.put_device-at.ensures.short in
+          let e = c.put_target.ensures.short in
           omega arith;
     }

@@ -16,8 +16,8 @@ returns-then-key-self c =
           c.args.key c.args.value c.if-key-self.true;
     }
 
-pub invariant-of-self : goal.invariant-of-self
-invariant-of-self c =
+pub invariant_of-self : goal.invariant_of-self
+invariant_of-self c =
     let b = c.args.self.now in
     let i = c.in-Some.i in
     let q : AbilityPair = record { key = c.args.key; held = c.args.value } in
@@ -25,7 +25,7 @@ invariant-of-self c =
     let once =
     again_once (λ (p : AbilityPair). p.key) (λ p. p.held) b.size b.used b.table b.few b.whole b.once q
     c.if-key-self.false i found.0 (omega arith) in
-    (b.few, (length-set b.table i q ∙ b.whole, (b.within, (once, tt))))
+    record { few = b.few; whole = length-set b.table i q ∙ b.whole; within = b.within; once = once }
 
 pub listed-in-None : goal.listed-in-None
 listed-in-None c =
@@ -45,8 +45,8 @@ bounds-self-self c =
     c.if-key-self.false c.in-None.ensures in
     omega arith
 
-pub invariant-of-self-in-None : goal.invariant-of-self-in-None
-invariant-of-self-in-None c =
+pub invariant_of-self-in-None : goal.invariant_of-self-in-None
+invariant_of-self-in-None c =
     let b = c.args.self.now in
     let q : AbilityPair = record { key = c.args.key; held = c.args.value } in
     let room =
@@ -55,7 +55,7 @@ invariant-of-self-in-None c =
     let once =
     first_once (λ (p : AbilityPair). p.key) (λ p. p.held) b.size b.used b.table b.few b.whole b.once q
     c.if-key-self.false c.in-None.ensures in
-    (b.few, (length-set b.table b.used q ∙ b.whole, (omega arith, (once, tt))))
+    record { few = b.few; whole = length-set b.table b.used q ∙ b.whole; within = omega arith; once = once }
 
 pub returns-in-Some : goal.returns-in-Some
 returns-in-Some c =

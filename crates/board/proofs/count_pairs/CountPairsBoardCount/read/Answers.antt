@@ -9,11 +9,11 @@ returns-then-key-self c =
     pair_past (λ (p : CountPair). p.key) (λ p. p.held) b.size b.used b.table b.few b.whole b.once
     c.args.key c.if-key-self.true
 
-pub returns-in-default : goal.returns-in-default
-returns-in-default c =
+pub returns-in_default : goal.returns-in_default
+returns-in_default c =
     let b = c.args.self.now in
     pair_none (λ (p : CountPair). p.key) (λ p. p.held) b.size b.used b.table b.few b.whole b.once
-    c.args.key c.in-default.ensures
+    c.args.key c.in_default.ensures
 
 pub returns : goal.returns
 returns c =

@@ -6,29 +6,29 @@ use Rattle.mission.specs.Shapes.{shape}
 use Rattle.mission.proofs.Accepting.{outline_ranged, faultless, first_line_fault, first_tree_fault, given_back, refused_outcome, refused_back}
 use Rattle.mission.proofs.mission.Mission.read.Goals as goal
 
-pub returns-in-err-outline : goal.returns-in-err-outline
-returns-in-err-outline c =
+pub returns-in_err-outline : goal.returns-in_err-outline
+returns-in_err-outline c =
     let t = c.args.text.now in
-    let p = err_from_is_err_and c.from-residual.result c.from-residual.ensures.1 in
-    let h = first_line_fault t c.in-err-outline.field-0.0 c.in-err-outline.ensures in
-    record { outcome = refused_outcome t c.from-residual.result _ c.args.self.now p h; back = refused_back t c.from-residual.result _ c.args.self.now p h }
+    let p = err_from_is_err_and c.from_residual.result c.from_residual.ensures.1 in
+    let h = first_line_fault t c.in_err-outline.field-0.0 c.in_err-outline.ensures in
+    record { outcome = refused_outcome t c.from_residual.result _ c.args.self.now p h; back = refused_back t c.from_residual.result _ c.args.self.now p h }
 
-pub returns-in-err-judge : goal.returns-in-err-judge
-returns-in-err-judge c =
+pub returns-in_err-judge : goal.returns-in_err-judge
+returns-in_err-judge c =
     let t = c.args.text.now in
-    let o = c.in-ok-outline.outline in
-    let p = err_from_is_err_and c.from-residual-in-err-judge.result c.from-residual-in-err-judge.ensures.1 in
-    let h = first_tree_fault t (shape o) _ c.in-ok-outline.ensures (outline_ranged o) c.in-err-judge.ensures in
+    let o = c.in_ok-outline.outline in
+    let p = err_from_is_err_and c.from_residual-in_err-judge.result c.from_residual-in_err-judge.ensures.1 in
+    let h = first_tree_fault t (shape o) _ c.in_ok-outline.ensures (outline_ranged o) c.in_err-judge.ensures in
     record {
-      outcome = refused_outcome t c.from-residual-in-err-judge.result _ c.args.self.now p h;
-      back = refused_back t c.from-residual-in-err-judge.result _ c.args.self.now p h;
+      outcome = refused_outcome t c.from_residual-in_err-judge.result _ c.args.self.now p h;
+      back = refused_back t c.from_residual-in_err-judge.result _ c.args.self.now p h;
     }
 
 pub returns : goal.returns
 returns c =
     let t = c.args.text.now in
-    let o = c.in-ok-outline.outline in
-    let e = c.in-ok-outline.ensures in
-    let l = c.in-ok-judge.ensures in
+    let o = c.in_ok-outline.outline in
+    let e = c.in_ok-outline.ensures in
+    let l = c.in_ok-judge.ensures in
     let m : Mission = record { outline = o; lawful = l } in
     record { outcome = (e, faultless t (shape o) e (outline_ranged o) l); back = λ k f. given_back m k (sym e ∙ f) }

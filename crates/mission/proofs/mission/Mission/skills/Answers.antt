@@ -7,7 +7,7 @@ use Rattle.mission.specs.Shapes.{shape}
 use Rattle.mission.proofs.Runs.{shape_long}
 use Rattle.mission.proofs.SkillLeaves.{count_more, one_some, one_none}
 use Rattle.mission.proofs.mission.Mission.skills.Goals as goal
-use Rattle.mission.proofs.mission.Mission.skills.Goals.{then-is-some, else-is-some}
+use Rattle.mission.proofs.mission.Mission.skills.Goals.{then-is_some, else-is_some}
 
 pub loop-i-preserved : goal.loop-i-preserved
 loop-i-preserved c =
@@ -19,9 +19,9 @@ loop-i-preserved c =
     let here : one_if c.skill.result ≡ one_if (skill_of (node_at ns i)) = ap one_if (c.skill.ensures ∙ ap skill_of c.node.ensures) in
     let was = c.loop-i.invariant.0 in
     let few = c.loop-i.invariant.1 in
-    elim c.if-is-some.branch [
-      | then-is-some w ↦ (let one = one_some c.skill.result (sym c.is-some.ensures ∙ w.if-is-some.true) in let is = w.skills-is in (omega arith, omega arith))
-      | else-is-some w ↦ (let none = one_none c.skill.result (sym c.is-some.ensures ∙ w.if-is-some.false) in let is = w.skills-is in (omega arith, omega arith))
+    elim c.if-is_some.branch [
+      | then-is_some w ↦ (let one = one_some c.skill.result (sym c.is_some.ensures ∙ w.if-is_some.true) in let is = w.skills-is in (omega arith, omega arith))
+      | else-is_some w ↦ (let none = one_none c.skill.result (sym c.is_some.ensures ∙ w.if-is_some.false) in let is = w.skills-is in (omega arith, omega arith))
     ]
 
 pub returns : goal.returns

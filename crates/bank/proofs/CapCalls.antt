@@ -1,15 +1,14 @@
 -- The calls of a cap, over the skills below.
 use Rattle.std.proofs.Common.{◌≡◌, ℕ, ◌+◌, ◌<◌, ◌≤◌, Bool, true, false, cond, List, length, get_or, set, Ok, Err, Result, sym, refl, ap, ◌∙◌, ⊎_elim, arith}
-use Rattle.std.proofs.lemmas.Bool.{cases_lt, cases_Bool}
-use Rattle.std.proofs.lemmas.List.{get_or_past, get_or-set_same, set-set, length-set}
+use Rattle.std.proofs.lemmas.Bool.{cases_lt}
+use Rattle.std.proofs.lemmas.List.{get_or_past, set-set}
 use Rattle.bank.specs.declared.bank_fault.BankFault.{BankFault}
 use Rattle.bank.specs.declared.bank_fault.BankFault.TheVariants.{Running, Idle}
 use Rattle.bank.specs.declared.kinds.Ending.{Ending}
 use Rattle.bank.specs.declared.kinds.Ending.TheVariants.{Fail}
-use Rattle.bank.specs.declared.kinds.Reply.{Reply}
 use Rattle.bank.specs.declared.kinds.Reply.TheVariants.{Run, Ended}
 use Rattle.bank.specs.Skills.{Skill, no_skill, runs_now, asked, leaves, start_reply, halt_reply, poll_reply, started, struck, polled}
-use Rattle.bank.specs.Calls.{asked_in, asked_out, asked_ok, poll_said_run, poll_said_end, poll_said_err, poll_idle, runs_some, halt_runs, poll_run, poll_end}
+use Rattle.bank.specs.Calls.{asked_in, asked_out, asked_ok, poll_said_run, poll_said_end, poll_said_err, poll_idle, runs_some, poll_run, poll_end}
 use Rattle.bank.specs.Capping.{capped, capped_at, capped_skills}
 use Rattle.bank.specs.Caps.{caps_length, caps_at, caps_set, caps_both, capped_runs, capped_started, capped_struck, goes_on, cut_off, comes_up}
 

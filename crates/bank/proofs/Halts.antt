@@ -1,7 +1,7 @@
 -- The skills below halted one after the other, and a cap over idle skills.
-use Rattle.std.proofs.Common.{◌≡◌, ℕ, ◌+◌, ◌<◌, ◌≤◌, true, false, cond, List, [], ◌∷◌, ◌++◌, map, length, get_or, take, drop, set, is_some, Some, None, Option, sym, refl, ap, ◌∙◌, ⊎_elim, arith}
+use Rattle.std.proofs.Common.{◌≡◌, ℕ, ◌+◌, ◌<◌, ◌≤◌, cond, List, [], ◌∷◌, ◌++◌, map, length, get_or, take, drop, set, is_some, Some, None, Option, sym, refl, ap, ◌∙◌, ⊎_elim, arith}
 use Rattle.std.proofs.lemmas.Bool.{cases_lt}
-use Rattle.std.proofs.lemmas.List.{append_assoc, append-nil, length-map, length-append, length-drop, length-take-le, get_or_at, set_at, set_past, take_all, drop_all, drop_more, map_more}
+use Rattle.std.proofs.lemmas.List.{append_assoc, append-nil, length-map, length-take-le, get_or_at, set_at, set_past, take_all, drop_all, drop_more, map_more}
 use Rattle.bank.specs.Skills.{Skill, Take, no_skill, struck}
 use Rattle.bank.specs.Capping.{capped, capped_at, capped_take, capped_skills, shortened, halted}
 

@@ -1,9 +1,9 @@
 -- A cap of 60,000 changes no take, and an idle bank is not changed by halting.
-use Rattle.std.proofs.Common.{◌≡◌, ℕ, zero, suc, ◌<◌, ◌≤◌, ltb, List, [], ◌∷◌, map, get_or, Option, sym, refl, ap, ◌∙◌, arith}
+use Rattle.std.proofs.Common.{◌≡◌, ℕ, suc, ltb, List, [], ◌∷◌, map, get_or, Option, refl, ap, ◌∙◌, arith}
 use mathlib.Core.Path.{fun_ext}
 use Rattle.std.proofs.lemmas.Bool.{cond-false, cond_both, le-ltb}
-use Rattle.bank.specs.Skills.{Skill, Take, Sound, no_skill, runs_now, struck}
-use Rattle.bank.specs.Capping.{capped_take, halted, shortened}
+use Rattle.bank.specs.Skills.{Skill, Take, Sound, no_skill, runs_now}
+use Rattle.bank.specs.Capping.{halted, shortened}
 use Rattle.bank.specs.Laws.{AllIdle}
 
 abbrev skill_of : Option ℕ → (ℕ → Take) → Skill

@@ -5,7 +5,7 @@ use Rattle.std.proofs.lemmas.Bool.{cases_lt}
 use Rattle.std.proofs.lemmas.List.{get_or_past, get_or-take, get_or_append_left, get_or-append_right, length-take, length-append, set-append_left, set-append_right, take_all}
 use Rattle.bank.specs.declared.bank_fault.BankFault.{BankFault}
 use Rattle.bank.specs.declared.bank_fault.BankFault.TheVariants.{Beyond}
-use Rattle.bank.specs.Skills.{Skill, Sound, no_skill, asked, leaves, runs_now}
+use Rattle.bank.specs.Skills.{Skill, Sound, no_skill, asked, leaves}
 use Rattle.bank.specs.Pairing.{paired}
 use Rattle.bank.specs.Calls.{asked_in, asked_out}
 use Rattle.bank.specs.Rows.{take_set_in}

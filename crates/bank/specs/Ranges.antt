@@ -1,5 +1,5 @@
 -- The ranges of runs, marks and runs given.
-use Rattle.std.specs.Prelude.{ℕ, ◌≤◌, Bool, ◌&&◌, ℤ, pos, negsuc, ◌≤ℤ◌, Some, None, Option, int_le, nat_le}
+use Rattle.std.specs.Prelude.{ℕ, Bool, ◌&&◌, ℤ, pos, negsuc, Some, None, Option, int_le, nat_le}
 use Rattle.bank.specs.declared.kinds.Ending.{Ending}
 use Rattle.bank.specs.declared.kinds.Ending.TheVariants.{Fail, Pass}
 

@@ -1,8 +1,7 @@
 -- What a recorded bank means is sound.
-use Rattle.std.specs.Prelude.{ℕ, zero, suc, cond, List, [], ◌∷◌, drop, ◌==◌}
-use Rattle.std.proofs.Common.{rules}
+use Rattle.std.specs.Prelude.{ℕ, zero, suc, List, [], ◌∷◌, drop, ◌==◌}
 use Rattle.std.proofs.lemmas.Bool.{cond_both}
-use Rattle.bank.specs.Skills.{Skill, Take, Sound, SoundTake, front, no_take}
+use Rattle.bank.specs.Skills.{Take, Sound, SoundTake, front}
 use Rattle.bank.specs.declared.parts.GivenTake.{GivenTake}
 use Rattle.bank.specs.declared.parts.RecordedSkill.{RecordedSkill}
 use Rattle.bank.specs.Recording.{row_take, given_takes, recorded_skill}

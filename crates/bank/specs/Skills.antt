@@ -1,7 +1,7 @@
 -- What a bank means: a list of skills, each an endless list of takes and a state.
-use Rattle.std.specs.Prelude.{ℕ, zero, suc, ◌+◌, ◌≤◌, Bool, true, false, cond, List, length, pos, negsuc, ◌≤ℤ◌, is_some, is_ok, Some, None, Ok, Err, Option, Result, nat_lt, slice_index_or, slice_set}
+use Rattle.std.specs.Prelude.{ℕ, zero, suc, ◌+◌, ◌≤◌, Bool, cond, List, length, pos, negsuc, ◌≤ℤ◌, is_some, is_ok, Some, None, Ok, Err, Option, Result, nat_lt, slice_index_or, slice_set}
 use Rattle.bank.specs.declared.kinds.Ending.{Ending}
-use Rattle.bank.specs.declared.kinds.Ending.TheVariants.{Fail, Pass}
+use Rattle.bank.specs.declared.kinds.Ending.TheVariants.{Fail}
 use Rattle.bank.specs.declared.kinds.Reply.{Reply}
 use Rattle.bank.specs.declared.kinds.Reply.TheVariants.{Run, Ended}
 use Rattle.bank.specs.declared.bank_fault.BankFault.{BankFault}

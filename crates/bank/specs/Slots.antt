@@ -1,5 +1,5 @@
 -- Calls on a bank whose skills are the first n of a table, each read by f.
-use Rattle.std.specs.Prelude.{◌≡◌, ℕ, ◌<◌, ◌≤◌, List, map, length, take, set, Err, Result, slice_index_or, slice_set, refl}
+use Rattle.std.specs.Prelude.{◌≡◌, ℕ, ◌<◌, ◌≤◌, List, map, length, take, set, Err, Result, slice_index_or, slice_set}
 use Rattle.std.proofs.Common.{sym, ap, ◌∙◌, arith}
 use Rattle.bank.specs.declared.bank_fault.BankFault.{BankFault}
 use Rattle.bank.specs.declared.bank_fault.BankFault.TheVariants.{Beyond}

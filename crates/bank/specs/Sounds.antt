@@ -1,6 +1,6 @@
 -- Skills read from a table are sound where each is.
-use Rattle.std.specs.Prelude.{ℕ, zero, suc, List, [], ◌∷◌, map, slice_index_or, refl}
-use Rattle.std.proofs.Common.{arith, rules}
+use Rattle.std.specs.Prelude.{ℕ, zero, suc, List, [], ◌∷◌, map, slice_index_or}
+use Rattle.std.proofs.Common.{rules}
 use Rattle.bank.specs.Skills.{Skill, Sound, no_skill}
 
 pub no_skill_sound : Sound no_skill

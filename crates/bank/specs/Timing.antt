@@ -1,5 +1,5 @@
 -- What a timed bank means.
-use Rattle.std.specs.Prelude.{List, map, take, None, Option}
+use Rattle.std.specs.Prelude.{List, map, take, None}
 use Rattle.bank.specs.Skills.{Skill, Take}
 use Rattle.bank.specs.declared.kinds.Ending.TheVariants.{Pass}
 use Rattle.bank.specs.declared.parts.Timing.{Timing}

@@ -1,5 +1,5 @@
 -- Entering on an entry that is full.
-use Rattle.std.proofs.Common.{◌≡◌, ℕ, cond, List, length, Some, None, Ok, Err, Option, sym, refl, ap, ◌∙◌}
+use Rattle.std.proofs.Common.{◌≡◌, ℕ, cond, List, length, Some, None, Ok, Err, Option, sym, ap, ◌∙◌}
 use Rattle.std.proofs.lemmas.Bool.{lt-ltb}
 use Rattle.board.specs.declared.entering.Entered.TheVariants.{Full}
 use Rattle.board.specs.declared.board_fault.BoardFault.TheVariants.{Beyond}

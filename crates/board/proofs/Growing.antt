@@ -1,7 +1,6 @@
 -- Entering on an entry that takes the share.
-use Rattle.std.proofs.Common.{◌≡◌, ℕ, ◌+◌, ◌<◌, ◌≤◌, true, List, length, set, ◌+ℤ◌, Some, None, Option, sym, refl, ap, ◌∙◌, ⊎_elim}
-use Rattle.std.proofs.lemmas.List.{get_or-set_same, get_or-set_other, length-set}
-use Rattle.std.proofs.lemmas.Bool.{cases_lt}
+use Rattle.std.proofs.Common.{◌≡◌, ℕ, List, Some, None, Option, ap, ◌∙◌}
+use Rattle.std.proofs.lemmas.List.{get_or-set_same}
 use Rattle.entry.specs.declared.parts.Ability.{Ability}
 use Rattle.entry.specs.declared.parts.Count.{Count}
 use Rattle.entry.specs.declared.parts.Mark.{Mark}
@@ -10,9 +9,9 @@ use Rattle.entry.specs.Abilities.{ability_makes, ability_takes}
 use Rattle.entry.specs.Counts.{count_makes, count_takes}
 use Rattle.entry.proofs.Adding as adding
 use Rattle.board.specs.Entering.{entered, offered, put}
-use Rattle.board.specs.Laws.{OnlyAt, CountGrows, AbilityGrows}
-use Rattle.board.specs.Meaning.{at, written}
-use Rattle.board.proofs.Meaning.{at_below, written_below, written_beyond}
+use Rattle.board.specs.Laws.{CountGrows, AbilityGrows}
+use Rattle.board.specs.Meaning.{at}
+use Rattle.board.proofs.Meaning.{at_below, written_below}
 
 module _ {E : Type 0} (l : List (Option E)) (k : ℕ) where
   pub grows_at : {S : Type 0} (making : S → E) (taking : E → S → Option E) (s : S) (e d : E) → at l k ≡ Some e → taking e s ≡ Some d → at (entered making taking l k s) k ≡ Some d

@@ -1,5 +1,5 @@
 -- A table of pairs whose used ones are as many as the keys that hold an entry.
-use Rattle.std.proofs.Common.{◌≡◌, ℕ, ◌+◌, ◌<◌, ◌≤◌, List, [], ◌∷◌, ◌++◌, length, get_or, take, set, Some, None, Ok, Err, Option, sym, refl, ap, ◌∙◌, arith}
+use Rattle.std.proofs.Common.{◌≡◌, ℕ, ◌+◌, ◌<◌, ◌≤◌, List, length, get_or, take, set, Some, None, Ok, Err, Option, sym, ap, ◌∙◌, arith}
 use Rattle.std.proofs.lemmas.List.{get_or_past, get_or-take, length-take-le, take_more_set}
 use Rattle.board.specs.declared.board_fault.BoardFault.TheVariants.{Beyond}
 use Rattle.board.specs.Laying.{laid, place, present}

@@ -1,5 +1,5 @@
 -- What boards promise of writes and of marks.
-use Rattle.std.specs.Prelude.{◌≡◌, ℕ, ◌+◌, ◌<◌, ◌≤◌, true, List, length, ◌+ℤ◌, Some, Option, Result, MatchResult, ◌≢◌}
+use Rattle.std.specs.Prelude.{◌≡◌, ℕ, ◌+◌, ◌≤◌, true, List, length, ◌+ℤ◌, Some, Option, Result, MatchResult, ◌≢◌}
 use Rattle.entry.specs.declared.parts.Ability.{Ability}
 use Rattle.entry.specs.declared.parts.Count.{Count}
 use Rattle.entry.specs.declared.parts.Mark.{Mark}

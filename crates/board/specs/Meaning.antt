@@ -1,5 +1,5 @@
 -- What a board means, a list of optional entries as long as its size, and what a call makes of it.
-use Rattle.std.specs.Prelude.{ℕ, cond, List, length, set, Some, None, Ok, Err, Option, Result, nat_lt, slice_index_or, slice_set}
+use Rattle.std.specs.Prelude.{ℕ, cond, List, length, Some, None, Ok, Err, Option, Result, nat_lt, slice_index_or, slice_set}
 use Rattle.board.specs.declared.board_fault.BoardFault.{BoardFault}
 use Rattle.board.specs.declared.board_fault.BoardFault.TheVariants.{Beyond}
 

@@ -4,8 +4,8 @@ ghost use Rattle.board.specs.Cells.{count_cells};
 ghost use Rattle.board.specs.declared.board_fault.BoardFault.TheVariants.{OutOfRange};
 ghost use Rattle.std.proofs.Common.{rules, arith};
 
-use crate::boards::Board;
 use crate::board_fault::BoardFault;
+use crate::boards::Board;
 use crate::parts::CountCells;
 use entry::parts::Count;
 

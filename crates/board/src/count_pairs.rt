@@ -8,8 +8,8 @@ ghost use Rattle.std.proofs.Common.{arith};
 ghost use Rattle.board.specs.declared.pair.CountPair.{CountPair};
 ghost use Rattle.board.specs.LayingLemmas.{length_laid};
 
-use crate::boards::Board;
 use crate::board_fault::BoardFault;
+use crate::boards::Board;
 use crate::pair::CountPair;
 use crate::parts::CountPairs;
 use entry::parts::Count;

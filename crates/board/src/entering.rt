@@ -3,8 +3,8 @@ ghost use Rattle.std.specs.Prelude.{◌≡◌};
 ghost use Rattle.board.specs.Entering.{entering, entered, held_to};
 ghost use Rattle.board.specs.Meaning.{at};
 
-use crate::boards::Board;
 use crate::board_fault::BoardFault;
+use crate::boards::Board;
 use entry::kind::Entry;
 
 // How entering a share went: it made the entry, was taken by it, or the entry is full for it.

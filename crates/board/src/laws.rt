@@ -8,9 +8,9 @@ ghost use Rattle.board.specs.Meaning.{at, answer, written};
 ghost use Rattle.board.specs.Writes.{all_written, refusals};
 ghost use Rattle.board.specs.declared.board_fault.BoardFault.TheVariants.{OutOfRange};
 
+use crate::board_fault::BoardFault;
 use crate::boards::Board;
 use crate::entering::{Entered, enter};
-use crate::board_fault::BoardFault;
 use crate::parts::{AbilityCells, AbilityPairs, CountCells, CountPairs};
 use crate::writes::write_all;
 use entry::kind::Entry;

@@ -3,11 +3,11 @@
 
 pub mod ability_cells;
 pub mod ability_pairs;
+pub mod board_fault;
 pub mod boards;
 pub mod count_cells;
 pub mod count_pairs;
 pub mod entering;
-pub mod board_fault;
 pub mod laws;
 pub mod pair;
 pub mod parts;

@@ -1,6 +1,6 @@
+use crate::board_fault::BoardFault;
 use crate::boards::Board;
 use crate::entering::{Entered, enter, meets};
-use crate::board_fault::BoardFault;
 use crate::parts::{AbilityCells, AbilityPairs, CountCells, CountPairs};
 use entry::parts::{Ability, Count, CountThreshold, Mark};
 use fault::refusal::Refusal;

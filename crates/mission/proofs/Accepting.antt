@@ -1,5 +1,5 @@
 -- A text is accepted exactly where no fault holds; else the reading finds the first.
-use Rattle.std.proofs.Common.{◌≡◌, ℕ, ◌+◌, ◌<◌, ◌≤◌, Bool, true, false, ◌&&◌, ◌⊎◌, List, [], length, ℤ, pos, Ok, Err, Result, sym, refl, ap, ◌∙◌, subst, inl, inr, ⊎_elim, arith, MatchResult}
+use Rattle.std.proofs.Common.{◌≡◌, ℕ, ◌+◌, ◌<◌, ◌≤◌, true, List, length, pos, Err, Result, sym, refl, ◌∙◌, subst, inl, inr, ⊎_elim, arith, MatchResult}
 use lib.Signed.{le_z}
 use Rattle.std.proofs.lemmas.Int.{ints}
 use Rattle.std.proofs.lemmas.Bool.{and_from}
@@ -10,13 +10,12 @@ use Rattle.mission.specs.declared.tree_fault.TreeFault.{TreeFault}
 use Rattle.mission.specs.declared.tree_fault.TreeFault.TheVariants.{Line, Node as AtNode}
 use Rattle.mission.specs.declared.outline.Outline.{Outline}
 use Rattle.mission.specs.declared.mission.Mission.{Mission}
-use Rattle.mission.specs.Faults.{flaw_number}
-use Rattle.mission.specs.Lawful.{Shape, Breaks, First, Lawful, number}
+use Rattle.mission.specs.Lawful.{Shape, Breaks, Lawful}
 use Rattle.mission.specs.Judging.{Refused}
 use Rattle.mission.specs.Shapes.{shape}
 use Rattle.mission.specs.Missions.{meaning, Accepted}
 use Rattle.mission.specs.Reading.{Caught}
-use Rattle.mission.specs.Texts.{text, declared, sized, InRange, Holds, Earlier, FirstFault, Faultless, Sooner}
+use Rattle.mission.specs.Texts.{text, InRange, Holds, Earlier, FirstFault, Faultless}
 use Rattle.mission.proofs.OneText.{one_mission}
 use Rattle.mission.proofs.Runs.{shape_long}
 use Rattle.mission.proofs.TextFaults.{no_flaw}

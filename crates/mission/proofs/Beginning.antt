@@ -1,7 +1,6 @@
 -- The mission that a place begins with: one condition, lawful.
-use Rattle.std.proofs.Common.{◌≡◌, ℕ, zero, suc, ◌<◌, ◌≤◌, ◌⊎◌, List, [], ◌∷◌, ◌++◌, length, pos, Some, codes, sym, refl, ap, ◌∙◌, subst, inl, inr, ⊎_elim, arith}
+use Rattle.std.proofs.Common.{◌≡◌, ℕ, zero, suc, List, [], ◌∷◌, ◌++◌, pos, codes, sym, refl, ⊎_elim, arith}
 use Rattle.text.specs.Numeral.{numeral, valued, above, reads}
-use Rattle.text.proofs.Cuts.{never}
 use Rattle.text.proofs.Numerals.{valued_sound}
 use Rattle.entry.specs.declared.parts.CountThreshold.{CountThreshold}
 use Rattle.mission.specs.declared.breach.Breach.{Breach}

@@ -1,6 +1,6 @@
 -- The tests of a node decide the conditions of refusals 3 to 7.
-use Rattle.std.proofs.Common.{◌≡◌, ℕ, zero, suc, ◌+◌, ◌<◌, ◌≤◌, Bool, true, false, not, ◌&&◌, ◌||◌, eqb, ltb, ◌⊎◌, List, [], ◌∷◌, ◌++◌, length, get_or, drop, Some, None, Option, sym, refl, ap, ◌∙◌, subst, inl, inr, ⊎_elim, add-one, arith}
-use Rattle.std.proofs.lemmas.Bool.{and_parts, and_cases, and_from, eq-eqb, eqb-true, eqb-false, both_ways, cases_Bool}
+use Rattle.std.proofs.Common.{◌≡◌, ℕ, suc, ◌+◌, ◌<◌, ◌≤◌, Bool, true, false, not, ◌&&◌, ◌||◌, eqb, ltb, List, [], ◌∷◌, length, get_or, drop, Some, None, Option, sym, refl, ap, ◌∙◌, inr, ⊎_elim, add-one, arith}
+use Rattle.std.proofs.lemmas.Bool.{and_parts, and_cases, eqb-true, eqb-false, both_ways}
 use Rattle.mission.specs.declared.node.Node.{Node}
 use Rattle.mission.specs.declared.breach.Breach.{Breach}
 use Rattle.mission.specs.declared.breach.Breach.TheVariants.{Place, Level, Twice, Key, Need}

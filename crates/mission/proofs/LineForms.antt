@@ -1,19 +1,17 @@
 -- One line a node: a line is read as w, as numbers are held, exactly when it is the line of w.
-use Rattle.std.proofs.Common.{◌≡◌, ℕ, Bool, true, false, cond, ◌&&◌, List, [], ◌∷◌, ◌++◌, ℤ, pos, negsuc, Some, None, Ok, Err, codes, Option, Result, sym, refl, ap, ◌∙◌, subst, ⊎_elim, arith, MatchResult}
+use Rattle.std.proofs.Common.{◌≡◌, ℕ, Bool, true, false, ◌&&◌, List, [], ◌∷◌, ℤ, pos, negsuc, Some, None, Ok, Err, codes, Option, Result, sym, refl, ap, ◌∙◌, subst, ⊎_elim, arith, MatchResult}
 use Rattle.std.specs.Option.{option_map}
 use Rattle.std.specs.Str.{bytes_eq}
 use Rattle.std.proofs.lemmas.Slice.Eq.{bytes_eq-Decides}
 use Rattle.std.proofs.lemmas.Int.{ints}
 use Rattle.std.proofs.lemmas.Bool.{cond-true, cond-false, cases_Bool, and_parts}
-use Rattle.text.specs.Numeral.{numeral, kept, within, valued, above}
-use Rattle.text.specs.Fields.{Rest, onto, field, spaced, free, then, word, number, number_or, last, one_ended, pair_ended}
-use Rattle.text.proofs.Cuts.{never, some_same, then_some, mapped_some, word_onto, word_sound, number_onto, number_sound, number_or_onto_number, number_or_onto_word, number_or_sound, last_some, one_ended_onto, one_ended_sound, pair_ended_onto, pair_ended_sound, free_field, free_append, free_numeral}
-use Rattle.text.proofs.Ranges.{true_not_false, within_kept, same_kept}
+use Rattle.text.specs.Numeral.{kept, within, valued, above}
+use Rattle.text.specs.Fields.{Rest, onto, field, spaced, free, then, word, number, last, one_ended, pair_ended}
+use Rattle.text.proofs.Cuts.{never, some_same, then_some, mapped_some, word_onto, word_sound, number_onto, number_sound, number_or_onto_number, number_or_onto_word, number_or_sound, last_some, one_ended_onto, one_ended_sound, pair_ended_onto, pair_ended_sound}
+use Rattle.text.proofs.Ranges.{within_kept, same_kept}
 use Rattle.mission.specs.declared.flaw.Flaw.{Flaw}
-use Rattle.mission.specs.declared.flaw.Flaw.TheVariants.{Form, Range}
-use Rattle.mission.specs.declared.node.GroupKind.{GroupKind}
+use Rattle.mission.specs.declared.flaw.Flaw.TheVariants.{Range}
 use Rattle.mission.specs.declared.node.GroupKind.TheVariants.{Seq, Fall, Mseq, Mfall}
-use Rattle.mission.specs.declared.node.LoopKind.{LoopKind}
 use Rattle.mission.specs.declared.node.LoopKind.TheVariants.{Retry, Repeat}
 use Rattle.mission.specs.declared.node.Node.{Node}
 use Rattle.mission.specs.declared.raw.NodeKind.{NodeKind}
@@ -22,8 +20,8 @@ use Rattle.mission.specs.declared.raw.RawTarget.{RawTarget}
 use Rattle.mission.specs.declared.raw.RawTarget.TheVariants.{Nowhere as RNowhere, Count as RCountKey, Ability as RAbilityKey}
 use Rattle.mission.specs.declared.raw.RawNode.{RawNode}
 use Rattle.mission.specs.declared.raw.RawNode.TheVariants.{Group as RGroup, Par as RPar, Not as RNot, Loop as RLoop, Skill as RSkill, Count as RCount, Ability as RAbility}
-use Rattle.mission.specs.Lines.{group_word, loop_word, kind_word, number_field, or_none, into_word, key_of, weight_of, kind_line, line, key_ranged, device_ranged, target_ranged, ranged, raw, JudgedLine}
-use Rattle.mission.specs.Parsing.{kinds, inner_kinds, kind_among, kind, target_of, maybe, target, skill, ability, filled, parsed, kept_target, kept_raw}
+use Rattle.mission.specs.Lines.{kind_word, number_field, or_none, into_word, key_of, weight_of, kind_line, line, key_ranged, device_ranged, target_ranged, ranged, raw, JudgedLine}
+use Rattle.mission.specs.Parsing.{kinds, kind_among, kind, target_of, maybe, target, skill, ability, filled, parsed, kept_target, kept_raw}
 
 -- each kind is named by its word, and by no other
 pub kind_named : (k : NodeKind) → kind (kind_word k) ≡ Some k

@@ -1,9 +1,9 @@
 -- Node lines taken one by one.
-use Rattle.std.proofs.Common.{◌≡◌, ℕ, Bool, true, false, ◌&&◌, List, [], ◌∷◌, ◌++◌, map, sym, refl, ap, ◌∙◌, subst, append_assoc}
+use Rattle.std.proofs.Common.{◌≡◌, ℕ, true, List, [], ◌∷◌, ◌++◌, map, sym, refl, ap, ◌∙◌, append_assoc}
 use Rattle.std.proofs.lemmas.List.{map-append}
 use Rattle.std.proofs.lemmas.Bool.{and_parts, and_from}
 use Rattle.mission.specs.declared.node.Node.{Node}
-use Rattle.mission.specs.Lines.{line, raw, ranged, all_ranged}
+use Rattle.mission.specs.Lines.{raw, ranged, all_ranged}
 use Rattle.mission.specs.Texts.{ended, node_line}
 use Rattle.mission.specs.Reading.{Taken}
 

@@ -1,13 +1,13 @@
 -- A line that declares a number is read as it is written.
-use Rattle.std.proofs.Common.{◌≡◌, ℕ, ◌<◌, Bool, true, false, ◌&&◌, List, [], ◌∷◌, ◌++◌, ℤ, pos, negsuc, Some, None, Ok, Err, Option, Result, sym, refl, ap, ◌∙◌, subst, arith, MatchResult}
+use Rattle.std.proofs.Common.{◌≡◌, ℕ, ◌<◌, true, false, List, ℤ, pos, Some, None, Ok, Err, Result, sym, ap, ◌∙◌, subst, arith, MatchResult}
 use Rattle.std.proofs.lemmas.Int.{ints}
 use Rattle.std.proofs.lemmas.Bool.{and_parts}
-use Rattle.text.specs.Numeral.{numeral, kept, within, most}
-use Rattle.text.specs.Fields.{Rest, free, one_ended}
+use Rattle.text.specs.Numeral.{within}
+use Rattle.text.specs.Fields.{free, one_ended}
 use Rattle.text.proofs.Cuts.{never, some_same, one_ended_onto, one_ended_sound}
 use Rattle.text.proofs.Ranges.{within_kept, same_kept}
 use Rattle.mission.specs.declared.flaw.Flaw.{Flaw}
-use Rattle.mission.specs.declared.flaw.Flaw.TheVariants.{Form, Range}
+use Rattle.mission.specs.declared.flaw.Flaw.TheVariants.{Range}
 use Rattle.mission.specs.Lines.{number_field, Bad}
 use Rattle.mission.specs.Reading.{plain, JudgedNumber}
 

@@ -1,20 +1,18 @@
 -- One mission a text: lines with their ends are told apart, and a line in range is the line of one node.
-use Rattle.std.proofs.Common.{◌≡◌, ℕ, zero, suc, ◌+◌, ◌<◌, ◌≤◌, Bool, true, false, not, ◌&&◌, eqb, List, [], ◌∷◌, ◌++◌, map, length, get_or, ℤ, pos, nat_abs, Some, None, codes, Option, sym, refl, ap, ◌∙◌, subst, append_assoc, arith}
+use Rattle.std.proofs.Common.{◌≡◌, ℕ, true, List, [], ◌∷◌, map, length, ℤ, pos, nat_abs, Some, None, codes, Option, sym, refl, ap, ◌∙◌, arith}
 use Rattle.std.specs.Option.{option_map}
 use Rattle.std.specs.List.{AllByRecursion}
 use Rattle.std.proofs.lemmas.List.{append_cancel_left}
-use Rattle.std.proofs.lemmas.Bool.{and_parts, and_from}
-use Rattle.text.specs.Numeral.{numeral, kept}
-use Rattle.text.specs.Fields.{field, spaced, onto, free, parted, then}
+use Rattle.std.proofs.lemmas.Bool.{and_parts}
+use Rattle.text.specs.Numeral.{numeral}
+use Rattle.text.specs.Fields.{field, spaced, free, parted}
 use Rattle.text.proofs.Cuts.{never, some_same, parted_here, free_append, free_numeral}
 use Rattle.text.proofs.Numerals.{one_value}
 use Rattle.entry.specs.declared.parts.Weight.{Weight}
 use Rattle.entry.specs.declared.parts.CountThreshold.{CountThreshold}
 use Rattle.entry.specs.declared.parts.AbilityThreshold.{AbilityThreshold}
 use Rattle.entry.proofs.Same.{same_weight, same_count_threshold, same_ability_threshold}
-use Rattle.mission.specs.declared.node.GroupKind.{GroupKind}
 use Rattle.mission.specs.declared.node.GroupKind.TheVariants.{Seq, Fall, Mseq, Mfall}
-use Rattle.mission.specs.declared.node.LoopKind.{LoopKind}
 use Rattle.mission.specs.declared.node.LoopKind.TheVariants.{Retry, Repeat}
 use Rattle.mission.specs.declared.node.Target.{Target}
 use Rattle.mission.specs.declared.node.Target.TheVariants.{Nowhere, Count as CountKey, Ability as AbilityKey}

@@ -1,16 +1,16 @@
 -- Open places and named skills, one node further.
-use Rattle.std.proofs.Common.{◌≡◌, ℕ, zero, suc, ◌+◌, ◌-◌, ◌<◌, ◌≤◌, Bool, true, false, not, ◌&&◌, ◌||◌, ltb, leb, ◌⊎◌, List, [], ◌∷◌, ◌++◌, length, get_or, drop, set, replicate, pos, Some, None, Option, sym, refl, ap, ◌∙◌, subst, inl, inr, ⊎_elim, add-one, arith}
+use Rattle.std.proofs.Common.{◌≡◌, ℕ, zero, suc, ◌+◌, ◌<◌, ◌≤◌, Bool, true, false, not, ◌||◌, ltb, ◌⊎◌, List, [], ◌∷◌, ◌++◌, length, get_or, set, replicate, pos, Some, None, Option, sym, refl, ap, ◌∙◌, inl, inr, ⊎_elim, add-one, arith}
 use lib.Signed.{le_z}
-use Rattle.std.proofs.lemmas.List.{length-set, length-replicate, get_or-replicate, get_or-set_same, get_or-set_other, get_or_past}
+use Rattle.std.proofs.lemmas.List.{length-set, length-replicate, get_or-replicate, get_or-set_same, get_or-set_other}
 use Rattle.std.proofs.lemmas.Int.{ints}
-use Rattle.std.proofs.lemmas.Bool.{and_parts, cases_eq, cases_lt, or_parts, or_cases, not-true, not-false, ltb-true, ltb-false, both_ways, leb-true}
+use Rattle.std.proofs.lemmas.Bool.{and_parts, cases_eq, or_parts, or_cases, not-true, not-false, ltb-true, ltb-false, both_ways}
 use Rattle.text.specs.Numeral.{within}
 use Rattle.mission.specs.declared.node.Node.{Node}
 use Rattle.mission.specs.declared.node.Node.TheVariants.{Group, Par, Not, Loop, Skill, Count, Ability}
 use Rattle.mission.specs.Lines.{ranged, raw, all_ranged}
 use Rattle.mission.specs.Nodes.{arity, skill_of}
 use Rattle.mission.specs.Places.{node_at, taken, places}
-use Rattle.mission.specs.Seen.{noted, noted_in, row}
+use Rattle.mission.specs.Seen.{noted, row}
 use Rattle.mission.specs.Judging.{none_left}
 
 pub places_more : (ns : List Node) (i : ℕ) → places ns (i + 1) ≡ taken (places ns i) (node_at ns i)

@@ -1,7 +1,7 @@
 -- Reading a node is reading its run of children; reading a run is reading its first node and the rest.
-use Rattle.std.proofs.Common.{◌≡◌, ℕ, zero, suc, ◌+◌, ◌-◌, ◌<◌, ◌≤◌, Bool, true, false, not, ◌&&◌, ◌||◌, eqb, ltb, ◌⊎◌, List, [], ◌∷◌, ◌++◌, length, drop, replicate, sym, refl, ap, ◌∙◌, subst, inl, inr, ⊎_elim, add-one, arith}
+use Rattle.std.proofs.Common.{◌≡◌, ℕ, zero, suc, ◌+◌, ◌-◌, ◌<◌, ◌≤◌, Bool, true, false, ◌&&◌, eqb, List, [], ◌∷◌, ◌++◌, length, drop, replicate, sym, ap, ◌∙◌, subst, inl, inr, ⊎_elim, add-one, arith}
 use Rattle.std.proofs.lemmas.List.{length-replicate, drop_at, drop-drop, length-take-le}
-use Rattle.std.proofs.lemmas.Bool.{cases_eq, cases_lt, both_ways, and_right, and_left, eq-eqb, ne_eqb, and_from}
+use Rattle.std.proofs.lemmas.Bool.{cases_eq, cases_lt, and_right, ne_eqb}
 use Rattle.mission.specs.declared.node.Node.{Node}
 use Rattle.mission.specs.declared.breach.Breach.{Breach}
 use Rattle.mission.specs.declared.breach.Breach.TheVariants.{Place, Level, Twice, Key, Need}

@@ -1,22 +1,20 @@
 -- The first fault of a text, from what each part of the reading says.
-use Rattle.std.proofs.Common.{◌≡◌, ℕ, zero, suc, ◌+◌, ◌-◌, ◌<◌, ◌≤◌, Bool, true, false, not, ◌&&◌, ◌⊎◌, List, [], ◌∷◌, ◌++◌, map, length, get_or, ℤ, pos, nat_abs, Some, None, codes, Option, sym, refl, ap, ◌∙◌, subst, inl, inr, ⊎_elim, append_assoc, append-nil, arith}
+use Rattle.std.proofs.Common.{◌≡◌, ℕ, zero, suc, ◌+◌, ◌<◌, ◌≤◌, Bool, true, List, [], ◌∷◌, ◌++◌, map, length, get_or, ℤ, pos, nat_abs, Some, codes, Option, sym, refl, ap, ◌∙◌, subst, inl, inr, ⊎_elim, append_assoc, append-nil, arith}
 use Rattle.std.specs.Option.{option_map}
-use Rattle.std.specs.List.{AllByRecursion}
-use Rattle.std.proofs.lemmas.List.{length-map, get_or-map, length-append}
+use Rattle.std.proofs.lemmas.List.{length-map, get_or-map}
 use Rattle.std.proofs.lemmas.Bool.{cases_lt, and_parts}
-use Rattle.text.specs.Fields.{field, free, parted, then}
-use Rattle.text.proofs.Cuts.{never, some_same, parted_here, parted_sound}
+use Rattle.text.specs.Fields.{free, parted, then}
+use Rattle.text.proofs.Cuts.{some_same, parted_here}
 use Rattle.text.proofs.Ranges.{true_not_false}
 use Rattle.mission.specs.declared.flaw.Flaw.{Flaw}
 use Rattle.mission.specs.declared.flaw.Flaw.TheVariants.{Form, Range}
 use Rattle.mission.specs.declared.line_fault.LineFault.{LineFault}
 use Rattle.mission.specs.declared.node.Node.{Node}
 use Rattle.mission.specs.declared.node.Node.TheVariants.{Not}
-use Rattle.mission.specs.declared.raw.RawNode.{RawNode}
 use Rattle.mission.specs.Faults.{flaw_number}
 use Rattle.mission.specs.Lawful.{Shape}
 use Rattle.mission.specs.Lines.{number_field, line, raw, ranged, all_ranged, Bad}
-use Rattle.mission.specs.Texts.{ended, head_line, counts_line, abilities_line, nodes_line, node_line, lines, text, declared, sized, InRange, skip, first_of, nth, Wrong, NodeFlawed, Flawed, Sooner, FirstFlaw}
+use Rattle.mission.specs.Texts.{ended, head_line, counts_line, abilities_line, nodes_line, node_line, lines, text, declared, sized, InRange, skip, first_of, nth, Wrong, NodeFlawed, Flawed, FirstFlaw}
 use Rattle.mission.specs.Reading.{Taken, Stopped, Caught}
 use Rattle.mission.proofs.NodeLines.{ended_push, ended_append}
 use Rattle.mission.proofs.OneText.{Clean, clean_lines, clean_nodes, free_number, one_number, same_range}

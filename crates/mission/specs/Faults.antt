@@ -4,7 +4,6 @@ use Rattle.fault.specs.declared.layer.Layer.{Layer}
 use Rattle.fault.specs.declared.layer.Layer.TheVariants.{Text, Tree}
 use Rattle.mission.specs.declared.flaw.Flaw.{Flaw}
 use Rattle.mission.specs.declared.flaw.Flaw.TheVariants.{Form, Range}
-use Rattle.mission.specs.declared.line_fault.LineFault.{LineFault}
 use Rattle.mission.specs.declared.tree_fault.TreeFault.{TreeFault}
 use Rattle.mission.specs.declared.tree_fault.TreeFault.TheVariants.{Line, Node}
 use Rattle.mission.specs.Lawful.{number}

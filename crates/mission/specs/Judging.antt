@@ -1,6 +1,5 @@
 -- What the tree reader keeps, and what it answers.
-use Rattle.std.specs.Prelude.{◌≡◌, ℕ, suc, ◌+◌, ◌<◌, ◌≤◌, Bool, true, false, List, [], ◌∷◌, ◌++◌, length, drop, replicate, Ok, Err, Result}
-use Rattle.mission.specs.declared.node.Node.{Node}
+use Rattle.std.specs.Prelude.{◌≡◌, ℕ, ◌+◌, ◌<◌, ◌≤◌, Bool, true, false, List, [], ◌∷◌, ◌++◌, length, drop, replicate, Ok, Err, Result}
 use Rattle.mission.specs.declared.breach.Breach.{Breach}
 use Rattle.mission.specs.declared.tree_fault.TreeFault.{TreeFault}
 use Rattle.mission.specs.declared.tree_fault.TreeFault.TheVariants.{Line, Node as AtNode}

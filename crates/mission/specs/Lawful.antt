@@ -1,5 +1,5 @@
 -- What makes a mission's nodes a lawful tree: the conditions of refusals 3 to 7, node by node.
-use Rattle.std.specs.Prelude.{◌≡◌, ℕ, zero, suc, ◌<◌, ◌≤◌, ◌⊎◌, List, [], ◌∷◌, ◌++◌, length, Some, None, Option, ◌≢◌}
+use Rattle.std.specs.Prelude.{◌≡◌, ℕ, suc, ◌<◌, ◌≤◌, ◌⊎◌, List, [], ◌∷◌, length, Some, ◌≢◌}
 use Rattle.mission.specs.declared.node.Node.{Node}
 use Rattle.mission.specs.declared.node.Node.TheVariants.{Group, Par, Not, Loop, Skill, Count, Ability}
 use Rattle.mission.specs.declared.node.Target.{Target}

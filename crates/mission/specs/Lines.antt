@@ -1,5 +1,5 @@
 -- The line of a node. A raw line has any whole numbers in its fields; a node's line is a raw line in range.
-use Rattle.std.specs.Prelude.{◌≡◌, ℕ, Bool, true, false, ◌&&◌, List, [], ◌∷◌, ◌++◌, ℤ, pos, negsuc, Some, None, Ok, Err, codes, Option, Result, ◌≢◌}
+use Rattle.std.specs.Prelude.{◌≡◌, ℕ, Bool, true, false, ◌&&◌, List, [], ◌∷◌, ℤ, pos, negsuc, Some, None, Ok, Err, codes, Option, Result, ◌≢◌}
 use Rattle.std.specs.Option.{option_map}
 use Rattle.text.specs.Numeral.{numeral, within}
 use Rattle.text.specs.Fields.{field, spaced}

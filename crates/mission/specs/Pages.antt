@@ -1,5 +1,5 @@
 -- Bytes laid over a page, as far as the page goes.
-use Rattle.std.specs.Prelude.{◌≡◌, ℕ, ◌+◌, ◌≤◌, List, [], ◌∷◌, length, slice_set}
+use Rattle.std.specs.Prelude.{◌≡◌, ℕ, ◌+◌, List, [], ◌∷◌, length, slice_set}
 
 -- each byte on its place; a place past the end of the page takes none
 unfoldable pub laid : List ℕ → ℕ → List ℕ → List ℕ

@@ -1,11 +1,11 @@
 -- What each part of the text reader answers.
-use Rattle.std.specs.Prelude.{◌≡◌, ℕ, suc, ◌+◌, ◌<◌, Bool, true, false, ◌&&◌, ◌⊎◌, List, [], ◌∷◌, ◌++◌, map, length, ℤ, pos, Ok, Err, Result, ◌≢◌}
+use Rattle.std.specs.Prelude.{◌≡◌, ℕ, ◌+◌, ◌<◌, Bool, true, ◌&&◌, ◌⊎◌, List, [], ◌++◌, map, length, ℤ, pos, Ok, Err, Result, ◌≢◌}
 use Rattle.text.specs.Fields.{free}
 use Rattle.mission.specs.declared.node.Node.{Node}
 use Rattle.mission.specs.declared.flaw.Flaw.{Flaw}
-use Rattle.mission.specs.declared.flaw.Flaw.TheVariants.{Form, Range}
+use Rattle.mission.specs.declared.flaw.Flaw.TheVariants.{Form}
 use Rattle.mission.specs.declared.line_fault.LineFault.{LineFault}
-use Rattle.mission.specs.Lines.{number_field, line, raw, ranged, all_ranged, Bad}
+use Rattle.mission.specs.Lines.{number_field, line, ranged, all_ranged, Bad}
 use Rattle.mission.specs.Texts.{ended, first_of, Wrong, node_line, FirstFlaw}
 
 -- a name that holds no byte that ends a name, a field or a line

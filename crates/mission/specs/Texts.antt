@@ -1,10 +1,9 @@
 -- The text of a mission, and its faults, line by line.
-use Rattle.std.specs.Prelude.{◌≡◌, ℕ, zero, suc, ◌+◌, ◌<◌, ◌≤◌, Bool, true, false, ◌⊎◌, List, [], ◌∷◌, ◌++◌, map, length, ℤ, pos, Some, None, codes, Option, ◌≢◌}
+use Rattle.std.specs.Prelude.{◌≡◌, ℕ, zero, suc, ◌+◌, ◌<◌, Bool, true, false, ◌⊎◌, List, [], ◌∷◌, ◌++◌, map, length, ℤ, pos, Some, codes, Option, ◌≢◌}
 use Rattle.std.specs.Option.{option_map}
 use Rattle.text.specs.Numeral.{within}
 use Rattle.text.specs.Fields.{field, parted, then}
 use Rattle.mission.specs.declared.node.Node.{Node}
-use Rattle.mission.specs.declared.breach.Breach.{Breach}
 use Rattle.mission.specs.declared.flaw.Flaw.{Flaw}
 use Rattle.mission.specs.declared.flaw.Flaw.TheVariants.{Form, Range}
 use Rattle.mission.specs.declared.tree_fault.TreeFault.{TreeFault}

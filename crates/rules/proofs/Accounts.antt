@@ -1,13 +1,12 @@
 -- Whatever calls follow an accepted opening, a named skill is accounted for at every point.
-use Rattle.std.proofs.Common.{◌≡◌, ℕ, suc, ◌+◌, ◌≤◌, Bool, true, false, not, eqb, List, [], ◌∷◌, pos, Some, None, Option, sym, refl, ap, ◌∙◌, arith, eq-eqb}
-use Rattle.mission.specs.Trees.{Tree}
+use Rattle.std.proofs.Common.{◌≡◌, ℕ, suc, ◌≤◌, Bool, true, false, not, eqb, List, [], ◌∷◌, pos, Some, None, Option, sym, refl, ◌∙◌, arith, eq-eqb}
 use Rattle.rules.specs.declared.sitting_fault.SittingFault.{SittingFault}
 use Rattle.rules.specs.declared.word.Word.TheVariants.{RootRun, RootPass, RootFail, RootHalt, RootClosed}
 use Rattle.rules.specs.Laws.{AtEveryPoint, over, also, Accounted}
-use Rattle.rules.specs.Leaves.{World, Users, runs_in, in_tick, users}
-use Rattle.rules.specs.Live.{Live, fresh}
+use Rattle.rules.specs.Leaves.{World, in_tick, users}
+use Rattle.rules.specs.Live.{Live}
 use Rattle.rules.specs.Missions.{Plan, names}
-use Rattle.rules.specs.Sittings.{Sitting, shut, held, State, Call, tick, halt_root, close, Answer, has, any_runs, tick_checks, halt_checks, close_checks, first_of, unless, begun, root_noted, named_on, continued, ticked, tick_on, all_halted, halted_with, halt_on, closed_with, close_on, called, played}
+use Rattle.rules.specs.Sittings.{Sitting, State, Call, tick, halt_root, close, Answer, has, any_runs, tick_checks, halt_checks, close_checks, first_of, unless, begun, root_noted, named_on, ticked, all_halted, halted_with, closed_with, called, played}
 use Rattle.rules.specs.Visiting.{Visit, visit}
 use Rattle.rules.proofs.Balances.{on, obeyed, Balanced, note, visit_balanced, stop_balanced}
 use Rattle.rules.proofs.Fronts.{Quiet, Told, told_run, told_pass, told_fail, visit_stands, halt_stands}

@@ -1,5 +1,5 @@
 -- The leaves of a sitting obey the front's law, and keep a skill's starts and ends in balance.
-use Rattle.std.proofs.Common.{◌≡◌, ℕ, zero, suc, ◌+◌, ◌<◌, ◌≤◌, Bool, true, false, ◌&&◌, eqb, List, [], ◌∷◌, ◌++◌, length, set, ℤ, pos, sym, refl, ap, ◌∙◌, subst, arith, eq-eqb, eqb-true}
+use Rattle.std.proofs.Common.{◌≡◌, ℕ, ◌+◌, ◌<◌, Bool, true, false, ◌&&◌, eqb, List, [], ◌∷◌, length, set, ℤ, pos, refl, ap, ◌∙◌, subst, arith, eqb-true}
 use Rattle.bank.specs.Skills.{Skill, runs_now}
 use Rattle.mission.specs.Trees.{Leaf, skill, count, ability}
 use Rattle.rules.specs.declared.line.Line.{Line}

@@ -1,5 +1,5 @@
 -- What a visit and a stop of a skill leaf do to the bank and the lines, case by case.
-use Rattle.std.proofs.Common.{◌≡◌, ℕ, zero, suc, ◌+◌, ◌<◌, ◌≤◌, Bool, true, false, cond, eqb, ltb, List, [], ◌∷◌, length, get_or, set, ℤ, pos, is_some, Some, None, Ok, Option, sym, refl, ap, ◌∙◌, subst, arith, ltb-false, ltb-true, ne_eqb}
+use Rattle.std.proofs.Common.{◌≡◌, ℕ, ◌+◌, ◌<◌, Bool, true, false, cond, eqb, ltb, List, length, set, ℤ, pos, is_some, Some, None, Ok, Option, sym, refl, ap, ◌∙◌, subst, arith, ltb-false, ltb-true, ne_eqb}
 use borrow.Author.Tests.{eqb-false}
 use Rattle.std.proofs.lemmas.List.{get_or-set_same, get_or-set_other, get_or_past, length-set}
 use Rattle.entry.specs.declared.parts.Ability.{Ability}
@@ -11,12 +11,12 @@ use Rattle.bank.specs.declared.kinds.Ending.TheVariants.{Fail as EndFail, Pass a
 use Rattle.bank.specs.declared.kinds.Reply.TheVariants.{Run as OneMoreRun, Ended}
 use Rattle.mission.specs.declared.node.Target.{Target}
 use Rattle.mission.specs.declared.node.Target.TheVariants.{Nowhere, Count as CountKey, Ability as AbilityKey}
-use Rattle.mission.specs.Trees.{Leaf, skill, count, ability}
+use Rattle.mission.specs.Trees.{skill}
 use Rattle.rules.specs.declared.line.Line.{Line}
 use Rattle.rules.specs.declared.status.Status.{Status}
 use Rattle.rules.specs.declared.status.Status.TheVariants.{Run, Pass, Fail}
 use Rattle.rules.specs.declared.word.Word.TheVariants.{Start as StartWord, Run as RunWord, Pass as PassWord, Fail as FailWord, Halt as HaltWord, Blocked as BlockedWord, Full as FullWord}
-use Rattle.rules.specs.Leaves.{World, Users, skill_at, runs_in, turned, noted, mark_of, brought, passed, scored, heard, poll_skill, start_skill, is_blocked, start_unless, act_on, visit_skill, stop_skill, visit_leaf, stop_leaf}
+use Rattle.rules.specs.Leaves.{World, Users, skill_at, runs_in, turned, noted, mark_of, brought, passed, scored, heard, start_skill, is_blocked, start_unless, act_on, visit_skill, stop_skill, visit_leaf, stop_leaf}
 use Rattle.rules.specs.Lines.{line, then_line}
 
 -- bank and lines before, the status, bank and lines after

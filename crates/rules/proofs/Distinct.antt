@@ -8,11 +8,11 @@ use Rattle.mission.specs.Missions.{meaning}
 use Rattle.mission.specs.Nodes.{skill_of}
 use Rattle.mission.specs.Places.{node_at}
 use Rattle.mission.specs.Shapes.{shape}
-use Rattle.mission.specs.Trees.{Leaf, skill, count, ability, Tree, leaf, group, par, neg, again, Trees, nil, cons, leaf_node, flatten, flattens, tree_of, Means}
+use Rattle.mission.specs.Trees.{Leaf, skill, count, ability, Tree, leaf, group, par, neg, again, Trees, nil, cons, leaf_node, flatten, flattens, Means}
 use Rattle.mission.proofs.Growing.{means}
 use Rattle.mission.proofs.Runs.{shape_long}
 use Rattle.rules.specs.Lines.{one}
-use Rattle.rules.specs.Missions.{Plan, made, plan, leaf_names, names, names_all}
+use Rattle.rules.specs.Missions.{made, plan, leaf_names, names, names_all}
 
 -- how many nodes name skill k
 

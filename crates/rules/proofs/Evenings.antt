@@ -3,14 +3,12 @@ use Rattle.std.proofs.Common.{◌≡◌, ℕ, List, length, get_or, sym, refl, a
 use Rattle.entry.specs.Abilities.{ability_makes, ability_in}
 use Rattle.entry.specs.Counts.{count_in}
 use Rattle.rules.specs.declared.line.Line.{Line}
-use Rattle.rules.specs.declared.status.Status.{Status}
-use Rattle.rules.specs.declared.status.Status.TheVariants.{Run, Pass, Fail}
 use Rattle.rules.specs.declared.word.Word.TheVariants.{RootRun}
 use Rattle.rules.specs.Leaves.{mark_in}
 use Rattle.rules.specs.Lines.{root_line}
 use Rattle.rules.specs.Others.{Executive, KeepsTheRules, FailsEachTick, RepeatsTheFirstTick, RuledOut}
 use Rattle.rules.specs.Samples.{begins, first_evening, EveningsHold}
-use Rattle.rules.specs.Sittings.{Sitting, State, Answer, opened, answered, halted, closed, refused, tick, called}
+use Rattle.rules.specs.Sittings.{State, Answer, opened, answered, halted, closed, refused, tick, called}
 use Rattle.rules.specs.Statuses.{number}
 
 pub evenings_hold : EveningsHold

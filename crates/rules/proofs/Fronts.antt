@@ -5,10 +5,10 @@ use Rattle.mission.specs.declared.node.Target.{Target}
 use Rattle.mission.specs.Trees.{Leaf, skill, count, ability}
 use Rattle.rules.specs.declared.status.Status.{Status}
 use Rattle.rules.specs.declared.status.Status.TheVariants.{Run, Pass, Fail}
-use Rattle.rules.specs.Live.{Polarity, on_pass, on_fail, Kept, pending, ended, Live, live_leaf, live_group, live_par, live_not, live_loop, Kids, no_kids, kid, cleared, cleared_kids, forgotten}
+use Rattle.rules.specs.Live.{Polarity, on_pass, on_fail, Kept, pending, ended, Live, Kids, kid}
 use Rattle.rules.specs.Sittings.{has}
 use Rattle.rules.specs.Statuses.{exchanged, is_run}
-use Rattle.rules.specs.Visiting.{Visit, gives, leaf_visit, moves_on, moved, kept_as, behind, later, in_front, go_on_or_stop, group_step, group_end, size, passes, fails, verdict, after_par, beside, par_step, par_end, not_end, count_or_end, loop_step, loop_end}
+use Rattle.rules.specs.Visiting.{Visit, gives, leaf_visit, moves_on, moved, kept_as, behind, later, in_front, go_on_or_stop, group_step, group_end, size, passes, fails, verdict, beside, par_step, par_end, not_end, count_or_end, loop_step, loop_end}
 use Rattle.rules.specs.Visiting.{Actions, halt, halt_kids, halt_later, halt_pending, par_decided, visit, visit_group, visit_par}
 use Rattle.rules.proofs.Standing.{Other, Absent, absent_leaf, absent_group, absent_par, absent_not, absent_loop, AbsentIn, absent_none, absent_kid}
 use Rattle.rules.proofs.Standing.{Stands, at_leaf, at_group, at_par, at_not, at_loop, StandsGroup, group_here, group_kept, group_past, group_free, group_waits, StandsPar, par_here, par_kept, par_there, Somewhere, SomewhereGroup}

@@ -1,5 +1,5 @@
 -- Halting related trees: the same leaves stop in the same order.
-use Rattle.std.proofs.Common.{◌≡◌, ℕ, Bool, true, false, sym, refl, ap, ◌∙◌}
+use Rattle.std.proofs.Common.{◌≡◌, Bool, true, false, sym, refl, ap, ◌∙◌}
 use Rattle.rules.specs.Live.{Polarity, Kept, pending, ended, Live, Kids, no_kids, kid, forgotten}
 use Rattle.rules.specs.Visiting.{behind, Actions, halt, halt_kids, halt_later, halt_pending}
 use Rattle.rules.proofs.Related.{all_not, joined, all_kept, Cold, cold_here, cold_there, Warm, warm_here, warm_behind, warm_past, warm_waits}

@@ -4,7 +4,7 @@ use Rattle.std.proofs.lemmas.Bool.Decides.{nat_tests}
 use Rattle.rules.specs.declared.status.Status.{Status}
 use Rattle.rules.specs.declared.status.Status.TheVariants.{Run, Pass, Fail}
 use Rattle.rules.specs.Lines.{one}
-use Rattle.rules.specs.Live.{Polarity, on_pass, on_fail, Kept, pending, ended, Live, live_group, live_par, live_not, live_loop, Kids, no_kids, kid, cleared, forgotten}
+use Rattle.rules.specs.Live.{Polarity, on_pass, on_fail, Kept, pending, ended, Live, live_not, Kids, no_kids, kid, cleared, forgotten}
 use Rattle.rules.specs.Statuses.{exchanged}
 use Rattle.rules.specs.Visiting.{Visit, gives, moves_on, moved, kept_as, behind, later, in_front, go_on_or_stop, group_step, group_end, size, is_pass, is_fail, passes, fails, verdict, after_par, beside, par_step, par_end, not_end, count_or_end, loop_end}
 use Rattle.rules.specs.Visiting.{Actions, halt_later, halt_pending, par_decided, visit, visit_group, visit_par}

@@ -1,13 +1,13 @@
 -- Related live trees are visited alike, and the fresh trees of a step are related.
-use Rattle.std.proofs.Common.{◌≡◌, ℕ, suc, ◌+◌, ◌-◌, ◌≤◌, Bool, true, false, ltb, List, [], ◌++◌, sym, refl, ap, subst, arith}
+use Rattle.std.proofs.Common.{◌≡◌, ℕ, suc, ◌+◌, ◌-◌, ◌≤◌, Bool, true, false, ltb, List, [], ◌++◌, refl, ap, subst, arith}
 use Rattle.mission.specs.declared.node.GroupKind.{GroupKind}
 use Rattle.mission.specs.declared.node.GroupKind.TheVariants.{Seq, Fall, Mseq, Mfall}
 use Rattle.mission.specs.declared.node.LoopKind.{LoopKind}
 use Rattle.mission.specs.declared.node.LoopKind.TheVariants.{Retry, Repeat}
-use Rattle.mission.specs.Trees.{Tree, group, par, neg, again, Trees, nil, cons, width}
+use Rattle.mission.specs.Trees.{Tree, group, Trees, nil, cons, width}
 use Rattle.rules.specs.declared.status.Status.{Status}
 use Rattle.rules.specs.declared.status.Status.TheVariants.{Run, Pass, Fail}
-use Rattle.rules.specs.Live.{Polarity, on_pass, on_fail, goes_on, remembers, counts_on, Kept, pending, ended, Live, live_group, live_par, live_not, live_loop, Kids, no_kids, kid, fresh, fresh_kids, cleared, forgotten}
+use Rattle.rules.specs.Live.{Polarity, on_pass, on_fail, goes_on, remembers, counts_on, Kept, pending, ended, Live, live_group, live_not, live_loop, Kids, no_kids, kid, fresh, fresh_kids, cleared, forgotten}
 use Rattle.rules.specs.Lines.{one}
 use Rattle.rules.specs.Regrouping.{mirror, mirror_loop, negated, followed_by, Step, StepIn}
 use Rattle.rules.specs.Statuses.{exchanged}

@@ -1,7 +1,7 @@
 -- One step of regrouping between live trees, and what clearing and forgetting make of it.
 use Rattle.std.proofs.Common.{◌≡◌, ℕ, suc, ◌+◌, ◌≤◌, Bool, true, false, not, List, refl, ap, subst}
 use Rattle.rules.specs.declared.status.Status.{Status}
-use Rattle.rules.specs.Live.{Polarity, on_pass, on_fail, Kept, pending, ended, Live, live_leaf, live_group, live_par, live_not, live_loop, Kids, no_kids, kid, cleared, cleared_kids, forgotten}
+use Rattle.rules.specs.Live.{Polarity, on_pass, on_fail, Kept, pending, ended, Live, live_group, live_par, live_not, live_loop, Kids, no_kids, kid, cleared, cleared_kids, forgotten}
 use Rattle.rules.specs.Visiting.{Visit, gives, behind, later, size}
 
 abbrev pub opposite : Polarity → Polarity

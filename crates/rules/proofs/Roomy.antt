@@ -1,11 +1,10 @@
 -- A place in use always has enough free lines to be closed.
-use Rattle.std.proofs.Common.{◌≡◌, ℕ, suc, ◌+◌, ◌-◌, ◌*◌, ◌<◌, ◌≤◌, Bool, true, false, not, ◌||◌, eqb, ltb, List, [], ◌∷◌, length, Some, None, Option, sym, refl, ap, ◌∙◌, subst, arith, ltb-false, eqb-true}
+use Rattle.std.proofs.Common.{◌≡◌, ℕ, suc, ◌+◌, ◌*◌, ◌≤◌, Bool, true, false, not, ◌||◌, eqb, ltb, List, [], ◌∷◌, length, Some, None, Option, sym, refl, ap, ◌∙◌, subst, arith, ltb-false, eqb-true}
 use Rattle.std.proofs.lemmas.List.{length-append}
 use Rattle.mission.specs.Trees.{Tree}
 use Rattle.rules.specs.declared.sitting_fault.SittingFault.{SittingFault}
 use Rattle.rules.specs.declared.sitting_fault.SittingFault.TheVariants.{PlaceOpen, SkillBeyond, SkillRuns, SkillsDiffer, BoardSmall, TraceLength, TraceFull}
 use Rattle.rules.specs.declared.line.Line.{Line}
-use Rattle.rules.specs.declared.word.Word.{Word}
 use Rattle.rules.specs.declared.word.Word.TheVariants.{RootHalt, RootClosed}
 use Rattle.rules.specs.Leaves.{World, Users, in_tick, users}
 use Rattle.rules.specs.Lines.{root_line, root_word, then_line}

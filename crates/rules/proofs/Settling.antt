@@ -1,13 +1,11 @@
 -- Nothing runs on.
-use Rattle.std.proofs.Common.{◌≡◌, ℕ, ◌≤◌, Bool, false, List, [], ◌∷◌, refl, ◌∙◌, arith}
-use Rattle.mission.specs.Trees.{Tree}
-use Rattle.rules.specs.Laws.{AtEveryPoint, over, also, Accounted, points}
-use Rattle.rules.specs.Leaves.{World, Users, runs_in, in_tick}
+use Rattle.std.proofs.Common.{ℕ, Bool, List, [], ◌∷◌, ◌∙◌, arith}
+use Rattle.rules.specs.Laws.{AtEveryPoint, over, also, Accounted}
+use Rattle.rules.specs.Leaves.{World, in_tick}
 use Rattle.rules.specs.Live.{Live, fresh, cleared}
-use Rattle.rules.specs.Missions.{plan, names}
 use Rattle.rules.specs.Quiet.{Turn, visited, halted, Settled, and_then, SettledThrough, OffTheFront, NothingRunsOn}
-use Rattle.rules.specs.Sittings.{State, Answer, has, opening}
-use Rattle.rules.specs.Visiting.{Visit, visit, halt}
+use Rattle.rules.specs.Sittings.{State, Answer}
+use Rattle.rules.specs.Visiting.{Visit, halt}
 use Rattle.rules.proofs.Balances.{on, obeyed}
 use Rattle.rules.proofs.Fronts.{Quiet, Told, told_run, told_pass, told_fail, visit_stands, halt_stands}
 use Rattle.rules.proofs.Standing.{Stands, clear_stands, fresh_stands}

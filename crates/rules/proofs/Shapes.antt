@@ -1,5 +1,5 @@
 -- Visiting and clearing change a live tree's memory and never its tree.
-use Rattle.std.proofs.Common.{◌≡◌, ℕ, suc, Bool, true, false, ltb, List, [], sym, refl, ap, ◌∙◌, ap₂}
+use Rattle.std.proofs.Common.{◌≡◌, ℕ, suc, Bool, true, false, ltb, List, [], refl, ap, ◌∙◌, ap₂}
 use Rattle.mission.specs.declared.node.GroupKind.{GroupKind}
 use Rattle.mission.specs.declared.node.GroupKind.TheVariants.{Seq, Fall, Mseq, Mfall}
 use Rattle.mission.specs.declared.node.LoopKind.{LoopKind}

@@ -1,6 +1,6 @@
 -- What a visit of a tree costs: each leaf is visited at most once, and may be stopped after that, but not
 -- visited after a stop. P i w says that the world w is within the budget i.
-use Rattle.std.proofs.Common.{◌≡◌, ℕ, suc, ◌+◌, ◌≤◌, Bool, true, false, ltb, List, [], refl, ap, arith}
+use Rattle.std.proofs.Common.{◌≡◌, ℕ, suc, ◌+◌, ◌≤◌, Bool, true, false, ltb, List, [], ap, arith}
 use Rattle.mission.specs.Trees.{Leaf, Tree, leaf, group, par, neg, again, Trees, nil, cons}
 use Rattle.rules.specs.declared.status.Status.{Status}
 use Rattle.rules.specs.declared.status.Status.TheVariants.{Run, Pass, Fail}

@@ -18,7 +18,6 @@ use Rattle.rules.proofs.Deeds.{Does, beyond, blocks, runs, fails, passes, overfl
 use Rattle.rules.proofs.Deeds as deeds
 use Rattle.rules.proofs.Shapes.{bare}
 use Rattle.rules.proofs.Spending.{cost, cost_all, Within, visit_spends, halt_spends, Holds, visit_keeps, halt_keeps}
-use Rattle.rules.proofs.Standing.{one_none}
 use Rattle.rules.proofs.Sums.{sum_below, sum_le, sum_add, sum_times, one_le, at_most_one_hit, one_hit}
 
 -- the lines of skill k

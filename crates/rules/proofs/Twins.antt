@@ -7,11 +7,11 @@ use Rattle.rules.specs.declared.word.Word.TheVariants.{RootHalt, RootClosed}
 use Rattle.rules.specs.Laws.{Sight, sight, seen}
 use Rattle.rules.specs.Leaves.{World, Users, in_tick, users}
 use Rattle.rules.specs.Lines.{root_word}
-use Rattle.rules.specs.Live.{Live, cleared}
+use Rattle.rules.specs.Live.{Live}
 use Rattle.rules.specs.Missions.{Plan}
 use Rattle.rules.specs.Regrouping.{Step, Chain, done, step, step_back}
-use Rattle.rules.specs.Sittings.{Sitting, Place, shut, held, State, Call, tick, halt_root, close, Answer, answered, halted, closed, refused, tick_checks, halt_checks, close_checks, first_of, unless, begun, root_noted, named_on, ticked, tick_on, all_halted, halted_with, halt_on, with_lines, closed_with, close_on, called, played}
-use Rattle.rules.specs.Visiting.{Visit, visit, halt}
+use Rattle.rules.specs.Sittings.{Sitting, shut, held, State, Call, tick, halt_root, close, Answer, answered, halted, closed, refused, tick_checks, halt_checks, close_checks, first_of, unless, begun, root_noted, named_on, ticked, tick_on, all_halted, halted_with, halt_on, with_lines, closed_with, close_on, called, played}
+use Rattle.rules.specs.Visiting.{Visit}
 use Rattle.rules.proofs.Related.{Related, Same, same, clear_related}
 use Rattle.rules.proofs.Halts.{halt_related}
 use Rattle.rules.proofs.Regroups.{visit_related, fresh_related}

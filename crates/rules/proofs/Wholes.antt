@@ -1,16 +1,14 @@
 -- The law of whole runs.
-use Rattle.std.proofs.Common.{◌≡◌, ℕ, ◌≤◌, Bool, true, false, ◌||◌, ltb, List, [], ◌∷◌, length, Some, None, Option, sym, refl, ap, ◌∙◌, subst, ap₂, arith}
+use Rattle.std.proofs.Common.{◌≡◌, ℕ, ◌≤◌, Bool, true, false, ◌||◌, ltb, List, [], ◌∷◌, length, Some, None, Option, sym, refl, ap, ◌∙◌, subst, arith}
 use Rattle.entry.specs.declared.parts.Ability.{Ability}
 use Rattle.entry.specs.declared.parts.Count.{Count}
 use Rattle.bank.specs.Skills.{Skill}
-use Rattle.mission.specs.declared.mission.Mission.{Mission}
-use Rattle.mission.specs.Trees.{Tree}
 use Rattle.rules.specs.declared.sitting_fault.SittingFault.{SittingFault}
 use Rattle.rules.specs.declared.sitting_fault.SittingFault.TheVariants.{PlaceOpen, SkillBeyond, SkillRuns, BoardSmall, TraceLength}
-use Rattle.rules.specs.Laws.{AtEveryPoint, points, Accounted, Sight, sight, seen, Alike, WholeRuns, LawOfWholeRuns}
-use Rattle.rules.specs.Leaves.{World, Users, users}
+use Rattle.rules.specs.Laws.{points, Sight, sight, seen, Alike, WholeRuns, LawOfWholeRuns}
+use Rattle.rules.specs.Leaves.{Users, users}
 use Rattle.rules.specs.Missions.{Plan, plan, names, Joined}
-use Rattle.rules.specs.Sittings.{Place, shut, held, State, Call, Answer, opened, any_beyond, any_runs, too_small, is_open, tick_room, opening_checks, pick, first_of, unless, begun, opening, played}
+use Rattle.rules.specs.Sittings.{shut, State, Answer, opened, any_beyond, any_runs, too_small, is_open, tick_room, opening_checks, pick, first_of, unless, begun, opening}
 use Rattle.rules.proofs.Accounts.{begun_accounted}
 use Rattle.rules.proofs.Distinct.{once}
 use Rattle.rules.proofs.Naming.{chain_users}

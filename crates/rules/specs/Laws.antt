@@ -5,10 +5,10 @@ use Rattle.entry.specs.declared.parts.Count.{Count}
 use Rattle.bank.specs.Skills.{Skill}
 use Rattle.mission.specs.declared.mission.Mission.{Mission}
 use Rattle.rules.specs.declared.line.Line.{Line}
-use Rattle.rules.specs.Leaves.{World, runs_in}
+use Rattle.rules.specs.Leaves.{runs_in}
 use Rattle.rules.specs.Lines.{one, starts, ends}
 use Rattle.rules.specs.Missions.{Plan, plan, names, Joined}
-use Rattle.rules.specs.Sittings.{Place, shut, State, Call, Answer, opened, has, opening, played, front_of}
+use Rattle.rules.specs.Sittings.{shut, State, Call, Answer, opened, has, opening, played, front_of}
 
 pub data AtEveryPoint (P : Answer × State → Type 0) : List (Answer × State) → Type 0 where
   over : AtEveryPoint P []

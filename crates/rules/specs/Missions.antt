@@ -1,5 +1,5 @@
 -- A mission as a sitting sees it: its declared numbers and its tree.
-use Rattle.std.specs.Prelude.{◌≡◌, ℕ, ◌+◌, Bool, length, Some, None, Option, ◌==◌}
+use Rattle.std.specs.Prelude.{◌≡◌, ℕ, ◌+◌, length, Some, None, Option, ◌==◌}
 use Rattle.mission.specs.declared.mission.Mission.{Mission}
 use Rattle.mission.specs.declared.node.GroupKind.TheVariants.{Seq}
 use Rattle.mission.specs.Lawful.{Shape}

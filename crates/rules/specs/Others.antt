@@ -1,13 +1,11 @@
 -- What the rules rule out: executives and variants of the rules that some evening tells apart from them.
-use Rattle.std.specs.Prelude.{◌≡◌, ℕ, suc, List, [], ◌∷◌, length, pos, None}
-use Rattle.bank.specs.Skills.{Skill}
+use Rattle.std.specs.Prelude.{◌≡◌, ℕ, suc, [], ◌∷◌, pos, None}
 use Rattle.mission.specs.declared.node.GroupKind.TheVariants.{Seq, Mseq}
-use Rattle.mission.specs.Trees.{Tree, group, par}
-use Rattle.rules.specs.declared.line.Line.{Line}
+use Rattle.mission.specs.Trees.{group, par}
 use Rattle.rules.specs.declared.status.Status.TheVariants.{Fail}
-use Rattle.rules.specs.Leaves.{World, Users, in_tick, stop_leaf, users, visit_leaf}
+use Rattle.rules.specs.Leaves.{World, Users, in_tick, users, visit_leaf}
 use Rattle.rules.specs.Live.{Live, live_par, forgotten, live_leaf, live_group, live_not, live_loop}
-use Rattle.rules.specs.Samples.{Sample, plain, two, repeating, ticks, begins, first_evening, third_evening, lines_of}
+use Rattle.rules.specs.Samples.{plain, two, repeating, ticks, begins, third_evening}
 use Rattle.rules.specs.Sittings.{Sitting, shut, held, State, Answer, answered, tick, halt_root, called, continued, ticked, tick_checks, first_of, Place}
 use Rattle.rules.specs.Visiting.{Actions, visit}
 

@@ -1,6 +1,6 @@
 -- Six sample evenings, each a mission, a bank, boards and some ticks, with what the last tick writes and
 -- what the boards hold then.
-use Rattle.std.specs.Prelude.{◌≡◌, ℕ, zero, suc, Bool, true, false, List, [], ◌∷◌, map, ℤ, pos, negsuc, Some, None, Option, ◌==◌}
+use Rattle.std.specs.Prelude.{◌≡◌, ℕ, zero, suc, List, [], ◌∷◌, map, ℤ, pos, negsuc, Some, None, Option, ◌==◌}
 use Rattle.std.proofs.Common.{lit≤}
 use Rattle.std.specs.Int.Signed.{le_z_yes}
 use Rattle.entry.specs.declared.parts.Ability.{Ability}
@@ -9,17 +9,15 @@ use Rattle.entry.specs.declared.parts.Count.{Count}
 use Rattle.entry.specs.declared.parts.Weight.{Weight}
 use Rattle.entry.specs.Abilities.{ability_of}
 use Rattle.entry.specs.Counts.{count_of}
-use Rattle.bank.specs.Skills.{Take, Skill, front}
+use Rattle.bank.specs.Skills.{Skill, front}
 use Rattle.bank.specs.declared.kinds.Ending.TheVariants.{Pass as EndPass}
 use Rattle.mission.specs.declared.node.GroupKind.TheVariants.{Seq, Fall, Mseq}
-use Rattle.mission.specs.declared.node.Target.{Target}
 use Rattle.mission.specs.declared.node.Target.TheVariants.{Nowhere, Count as CountKey, Ability as AbilityKey}
 use Rattle.mission.specs.Trees.{skill, ability, Tree, leaf, group, par, Trees, nil, cons}
 use Rattle.rules.specs.declared.line.Line.{Line}
 use Rattle.rules.specs.declared.word.Word.TheVariants.{Start, Run, Pass, Halt, Blocked, Full, RootRun, RootPass, RootFail}
 use Rattle.rules.specs.Leaves.{World}
 use Rattle.rules.specs.Lines.{line, root_line}
-use Rattle.rules.specs.Missions.{Plan}
 use Rattle.rules.specs.Sittings.{shut, State, tick, opening, called, pick}
 
 -- a skill that is idle, passes with this mark after so many runs, and does so again and again

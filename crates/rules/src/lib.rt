@@ -2,8 +2,8 @@
 // definitions, and the laws above them.
 #![tactic(auto)]
 
-pub mod sitting_fault;
 pub mod laws;
 pub mod line;
+pub mod sitting_fault;
 pub mod status;
 pub mod word;

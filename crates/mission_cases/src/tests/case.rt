@@ -34,14 +34,22 @@ const FORMER: &[u8] = b"mission=1\ncounts=2\nabilities=3\nnodes=4\n\
     node=skill skill=5 device=none into=ability key=2 weight=9\n\
     node=count key=1 least=-8\n";
 
+// Reads a text that is to be accepted; a failure shows what is told of the case.
+fn read(place: &mut Mission, text: &[u8], told: &str) -> Result<(), Fail> {
+    match place.read(text) {
+        Ok(()) => Ok(()),
+        Err(fault) => Err(Fail::new(format_args!("error: {fault:?}: {told}"))),
+    }
+}
+
 // The text is accepted, whatever the place holds, and writing gives it back.
-pub(crate) fn accept(rt: &impl Abort, heap: Global, text: &[u8]) -> Result<(), Fail> {
+pub(crate) fn accept(rt: &impl Abort, heap: Global, text: &[u8], told: &str) -> Result<(), Fail> {
     let mut place = Mission::new();
-    place.read(text)?;
-    check_writes(rt, heap, &place, text)?;
-    place.read(FORMER)?;
-    place.read(text)?;
-    check_writes(rt, heap, &place, text)
+    read(&mut place, text, told)?;
+    check_writes(rt, heap, &place, text, told)?;
+    read(&mut place, FORMER, told)?;
+    read(&mut place, text, told)?;
+    check_writes(rt, heap, &place, text, told)
 }
 
 // The text is refused with this number at this line, and the place stays as it was.
@@ -51,14 +59,15 @@ pub(crate) fn refuse(
     text: &[u8],
     number: u8,
     line: u32,
+    told: &str,
 ) -> Result<(), Fail> {
     let mut place = Mission::new();
-    check_refuses(rt, &mut place, text, number, line)?;
-    check_writes(rt, heap, &place, FRESH)?;
-    place.read(FORMER)?;
-    check_writes(rt, heap, &place, FORMER)?;
-    check_refuses(rt, &mut place, text, number, line)?;
-    check_writes(rt, heap, &place, FORMER)
+    check_refuses(rt, &mut place, text, number, line, told)?;
+    check_writes(rt, heap, &place, FRESH, told)?;
+    read(&mut place, FORMER, told)?;
+    check_writes(rt, heap, &place, FORMER, told)?;
+    check_refuses(rt, &mut place, text, number, line, told)?;
+    check_writes(rt, heap, &place, FORMER, told)
 }
 
 fn check_refuses(
@@ -67,17 +76,18 @@ fn check_refuses(
     text: &[u8],
     number: u8,
     line: u32,
+    told: &str,
 ) -> Result<(), Fail> {
     let Err(fault) = place.read(text) else {
-        return Err(Fail::new("the text is accepted"));
+        return Err(Fail::new(format_args!("the text is accepted: {told}")));
     };
-    assert_eq!(rt; (fault.number(), fault.line()), (number, line));
+    assert_eq!(rt; (fault.number(), fault.line()), (number, line), "{told}");
     let layer = if number <= 2 {
         Layer::Text
     } else {
         Layer::Tree
     };
-    assert_eq!(rt; fault.layer(), layer);
+    assert_eq!(rt; fault.layer(), layer, "{told}");
     Ok(())
 }
 
@@ -91,11 +101,11 @@ pub(crate) fn judge(
 ) -> Result<(), Fail> {
     let number = match case {
         Case::Accepted(_) => {
-            accept(rt, heap, text).note(shown(case.text()))?;
+            accept(rt, heap, text, shown(case.text()))?;
             0
         }
         Case::Refused(number, line, _) => {
-            refuse(rt, heap, text, *number, *line).note(shown(case.text()))?;
+            refuse(rt, heap, text, *number, *line, shown(case.text()))?;
             usize::from(*number)
         }
     };
@@ -158,7 +168,7 @@ fn line_ends(lines: &[u8]) -> usize {
     ends
 }
 
-// A text in the note of a failure.
+// A text as a failure shows it.
 fn shown(text: &[u8]) -> &str {
     std::str::from_utf8(text).unwrap_or("a text with bytes above 127")
 }

@@ -27,10 +27,18 @@ pub(crate) fn check_writes(
     heap: Global,
     mission: &Mission,
     text: &[u8],
+    told: &str,
 ) -> Result<(), Fail> {
-    check_fits(rt, heap, mission, text, text.len())?;
-    check_fits(rt, heap, mission, text, text.len().saturating_add(MORE))?;
-    check_short(rt, heap, mission, text.len().saturating_sub(1))
+    check_fits(rt, heap, mission, text, text.len(), told)?;
+    check_fits(
+        rt,
+        heap,
+        mission,
+        text,
+        text.len().saturating_add(MORE),
+        told,
+    )?;
+    check_short(rt, heap, mission, text.len().saturating_sub(1), told)
 }
 
 // On a page of this length the text stands first, and all past it is as found.
@@ -40,22 +48,29 @@ fn check_fits(
     mission: &Mission,
     text: &[u8],
     len: usize,
+    told: &str,
 ) -> Result<(), Fail> {
     let mut lent = page(heap, b"", len)?;
-    assert_eq!(rt; mission.write(lent.as_mut_slice())?, text.len());
-    assert_eq!(rt; lent, page(heap, text, len)?);
+    assert_eq!(rt; mission.write(lent.as_mut_slice())?, text.len(), "{told}");
+    assert_eq!(rt; lent, page(heap, text, len)?, "{told}");
     Ok(())
 }
 
 // A page of this length is too short, and the whole of it is as found.
-fn check_short(rt: &impl Abort, heap: Global, mission: &Mission, len: usize) -> Result<(), Fail> {
+fn check_short(
+    rt: &impl Abort,
+    heap: Global,
+    mission: &Mission,
+    len: usize,
+    told: &str,
+) -> Result<(), Fail> {
     let mut lent = page(heap, b"", len)?;
     let Err(fault) = mission.write(lent.as_mut_slice()) else {
-        return Err(Fail::new("the text is written"));
+        return Err(Fail::new(format_args!("the text is written: {told}")));
     };
-    assert_eq!(rt; (fault.number(), fault.line()), (21, 0));
-    assert_eq!(rt; fault.layer(), Layer::Text);
-    assert_eq!(rt; lent, page(heap, b"", len)?);
+    assert_eq!(rt; (fault.number(), fault.line()), (21, 0), "{told}");
+    assert_eq!(rt; fault.layer(), Layer::Text, "{told}");
+    assert_eq!(rt; lent, page(heap, b"", len)?, "{told}");
     Ok(())
 }
 
@@ -65,9 +80,9 @@ fn a_fresh_place_writes_one_condition(rt: HostRuntime) -> Result<(), Fail> {
     let place = Mission::new();
     assert_eq!(rt; (place.counts(), place.abilities()), (1, 0));
     assert_eq!(rt; (place.nodes().len(), place.skills()), (1, 0));
-    check_writes(&rt, heap, &place, FRESH)?;
+    check_writes(&rt, heap, &place, FRESH, "a fresh place")?;
     for len in 0..FRESH.len() {
-        check_short(&rt, heap, &place, len)?;
+        check_short(&rt, heap, &place, len, "a fresh place")?;
     }
     Ok(())
 }

@@ -206,7 +206,7 @@ fn crowd(heap: Global, root: &[u8]) -> Result<Vec<u8>, AllocError> {
 fn a_text_of_256_nodes_is_accepted(rt: HostRuntime) -> Result<(), Fail> {
     let heap = rt.alloc();
     let text = crowd(heap, ROOT)?;
-    accept(&rt, heap, text.as_slice())?;
+    accept(&rt, heap, text.as_slice(), "256 nodes")?;
     let mut place = Mission::new();
     place.read(text.as_slice())?;
     assert_eq!(rt; (place.counts(), place.abilities()), (32, 32));
@@ -220,13 +220,13 @@ fn a_line_more_or_less_is_refused(rt: HostRuntime) -> Result<(), Fail> {
     let mut text = crowd(heap, ROOT)?;
     let len = text.len();
     text.extend_from_slice(LAST)?;
-    refuse(&rt, heap, text.as_slice(), 1, 261)?;
+    refuse(&rt, heap, text.as_slice(), 1, 261, "a line more")?;
     text.truncate(len.saturating_sub(1));
-    refuse(&rt, heap, text.as_slice(), 1, 260)?;
+    refuse(&rt, heap, text.as_slice(), 1, 260, "no last end")?;
     text.truncate(len.saturating_sub(LAST.len()));
-    refuse(&rt, heap, text.as_slice(), 1, 260)?;
+    refuse(&rt, heap, text.as_slice(), 1, 260, "a line less")?;
     let few = crowd(heap, b"node=seq kids=14\n")?;
-    refuse(&rt, heap, few.as_slice(), 3, 244)?;
+    refuse(&rt, heap, few.as_slice(), 3, 244, "places short")?;
     let many = crowd(heap, b"node=seq kids=16\n")?;
-    refuse(&rt, heap, many.as_slice(), 3, 260)
+    refuse(&rt, heap, many.as_slice(), 3, 260, "places over")
 }

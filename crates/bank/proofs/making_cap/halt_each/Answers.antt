@@ -1,7 +1,7 @@
-use Rattle.std.proofs.Common.{◌≡◌, get_or, set, sym, refl, ap, ◌∙◌, arith}
+use Rattle.std.proofs.Common.{get_or, set, refl, ap, ◌∙◌, arith}
 use Rattle.bank.specs.Capping.{halted}
 use Rattle.bank.specs.Skills.{no_skill}
-use Rattle.bank.proofs.Halts.{halted_first, halted_more, halted_all}
+use Rattle.bank.proofs.Halts.{halted_more, halted_all}
 use Rattle.bank.proofs.making_cap.halt_each.Goals as goal
 
 pub loop-k-init : goal.loop-k-init

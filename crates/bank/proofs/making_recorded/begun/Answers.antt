@@ -1,5 +1,4 @@
-use Rattle.std.proofs.Common.{◌≡◌, ℕ, length, refl, ◌∙◌, subst, arith, length-set}
-use Rattle.bank.specs.Recording.{Begun}
+use Rattle.std.proofs.Common.{refl, ◌∙◌, arith, length-set}
 use Rattle.bank.proofs.Records.{begun_more}
 use Rattle.bank.proofs.making_recorded.begun.Goals as goal
 

@@ -1,4 +1,4 @@
-use Rattle.std.proofs.Common.{length, take, sym, refl, ap, ◌∙◌, arith, length-set}
+use Rattle.std.proofs.Common.{length, take, ap, ◌∙◌, arith, length-set}
 use Rattle.std.proofs.lemmas.List.{take_all}
 use Rattle.bank.proofs.Records.{copied_more}
 use Rattle.bank.proofs.making_recorded.copied.Goals as goal

@@ -1,4 +1,4 @@
-use Rattle.std.proofs.Common.{sym, refl, ◌∙◌, arith}
+use Rattle.std.proofs.Common.{sym, ◌∙◌, arith}
 use Rattle.bank.proofs.Records.{below_stops, below_goes_on, below_done}
 use Rattle.bank.proofs.making_recorded.within.Goals as goal
 

@@ -1,4 +1,4 @@
-use Rattle.std.proofs.Common.{◌≡◌, sym, refl, ap, ◌∙◌, arith}
+use Rattle.std.proofs.Common.{sym, ap, ◌∙◌, arith}
 use Rattle.bank.specs.declared.parts.GivenTake.{GivenTake}
 use Rattle.bank.proofs.Records.{given_later, found, none_found}
 use Rattle.bank.proofs.recorded.idle_from.Goals as goal

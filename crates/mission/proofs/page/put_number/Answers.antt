@@ -1,4 +1,4 @@
-use Rattle.std.proofs.Common.{◌++◌, ap, subst, arith, w32, to_z, of_z}
+use Rattle.std.proofs.Common.{◌++◌, subst, arith, w32, to_z, of_z}
 use Rattle.std.proofs.lemmas.Int.{to_z-of_z}
 use Rattle.text.specs.Numeral.{numeral}
 use Rattle.mission.specs.Pages.{Laid}

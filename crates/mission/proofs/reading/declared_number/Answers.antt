@@ -1,4 +1,4 @@
-use Rattle.std.proofs.Common.{◌≡◌, true, false, pos, sym, ap, ◌∙◌, subst, arith, w32, SFits, rules, MatchResult}
+use Rattle.std.proofs.Common.{◌≡◌, true, false, pos, ap, ◌∙◌, subst, arith, w32, SFits, rules, MatchResult}
 use Rattle.std.proofs.lemmas.Int.{to_z-of_z}
 use Rattle.text.specs.Fields.{one_ended}
 use Rattle.text.specs.Numeral.{within}

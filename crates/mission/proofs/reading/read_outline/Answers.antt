@@ -1,4 +1,4 @@
-use Rattle.std.proofs.Common.{◌≡◌, ℕ, List, [], length, take, Ok, Err, Result, sym, refl, ap, ◌∙◌, subst, arith, MatchResult}
+use Rattle.std.proofs.Common.{◌≡◌, ℕ, List, [], length, Err, Result, sym, ◌∙◌, subst, MatchResult}
 use Rattle.std.proofs.lemmas.Result.{err_from_is_err_and, MatchResult-weaker}
 use Rattle.mission.specs.declared.outline.Outline.{Outline}
 use Rattle.mission.specs.declared.line_fault.LineFault.{LineFault}

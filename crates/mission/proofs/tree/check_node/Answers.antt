@@ -1,11 +1,10 @@
-use Rattle.std.proofs.Common.{◌≡◌, ℕ, ◌+◌, ◌<◌, Bool, true, false, not, ◌&&◌, ◌||◌, eqb, ltb, length, take, sym, refl, ap, ◌∙◌, subst, arith}
+use Rattle.std.proofs.Common.{◌≡◌, ℕ, ◌+◌, Bool, true, false, not, ◌&&◌, ◌||◌, eqb, ltb, length, sym, refl, ap, ◌∙◌, subst, arith}
 use Rattle.std.proofs.lemmas.List.{length-take-le}
 use Rattle.std.proofs.lemmas.Bool.Decides.{not_from_Decides}
 use Rattle.mission.specs.declared.node.Node.{Node}
 use Rattle.mission.specs.declared.outline.Outline.{Outline}
-use Rattle.mission.specs.Lawful.{Beyond, Overneeds, Unplaced, Deep, Again}
+use Rattle.mission.specs.Lawful.{Beyond, Overneeds}
 use Rattle.mission.specs.Nodes.{arity}
-use Rattle.mission.specs.Places.{node_at}
 use Rattle.mission.specs.Shapes.{shape}
 use Rattle.mission.proofs.Judgements.{leaves, unplaced, placed, deep, shallow, again, once, none_below, below_eight}
 use Rattle.mission.proofs.tree.check_node.Goals as goal

@@ -1,4 +1,4 @@
-use Rattle.std.proofs.Common.{◌≡◌, ℕ, ◌+◌, ◌-◌, ◌<◌, ◌≤◌, length, sym, refl, ap, ◌∙◌, subst, arith}
+use Rattle.std.proofs.Common.{refl, arith}
 use Rattle.mission.specs.Shapes.{shape}
 use Rattle.mission.proofs.Runs.{shape_long, root, too_many}
 use Rattle.mission.proofs.tree.judge.Goals as goal

@@ -1,4 +1,4 @@
-use Rattle.std.proofs.Common.{◌≡◌, ℕ, ◌≤◌, List, [], ◌∷◌, ◌++◌, length, pos, codes, sym, refl, ap, ◌∙◌, subst, append_assoc, arith}
+use Rattle.std.proofs.Common.{◌≤◌, [], ◌∷◌, ◌++◌, length, pos, codes, ap, subst, arith}
 use Rattle.text.specs.Numeral.{numeral}
 use Rattle.mission.specs.Pages.{Laid}
 use Rattle.mission.proofs.Laying.{laid_then}

@@ -1,6 +1,5 @@
-use Rattle.std.proofs.Common.{◌≡◌, List, [], ◌∷◌, ◌++◌, pos, codes, sym, refl, ap, ◌∙◌, subst, append_assoc, arith}
+use Rattle.std.proofs.Common.{[], ◌∷◌, ◌++◌, pos, codes, arith}
 use Rattle.text.specs.Numeral.{numeral}
-use Rattle.mission.specs.Pages.{Laid}
 use Rattle.mission.proofs.Laying.{laid_then}
 use Rattle.mission.proofs.writing.put_head.Goals as goal
 

@@ -1,4 +1,4 @@
-use Rattle.std.proofs.Common.{◌≡◌, List, [], ◌∷◌, ◌++◌, pos, codes, sym, refl, ap, ◌∙◌, subst, append_assoc, arith}
+use Rattle.std.proofs.Common.{[], ◌∷◌, ◌++◌, pos, codes, ◌∙◌, subst, append_assoc, arith}
 use Rattle.text.specs.Numeral.{numeral}
 use Rattle.mission.specs.Pages.{Laid}
 use Rattle.mission.proofs.Laying.{laid_then}

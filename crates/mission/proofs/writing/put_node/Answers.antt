@@ -1,8 +1,8 @@
-use Rattle.std.proofs.Common.{◌≡◌, ℕ, List, [], ◌∷◌, ◌++◌, pos, codes, sym, refl, ap, ◌∙◌, subst, arith}
+use Rattle.std.proofs.Common.{◌≡◌, ℕ, List, [], ◌∷◌, ◌++◌, pos, codes, sym, ap, ◌∙◌, subst, arith}
 use Rattle.std.specs.Option.{option_map}
 use Rattle.text.specs.Fields.{field}
 use Rattle.mission.specs.declared.node.Node.{Node}
-use Rattle.mission.specs.declared.raw.NodeKind.TheVariants.{Group as KGroup, Par as KPar, Loop as KLoop, Skill as KSkill, Count as KCount, Ability as KAbility}
+use Rattle.mission.specs.declared.raw.NodeKind.TheVariants.{Par as KPar, Skill as KSkill, Count as KCount, Ability as KAbility}
 use Rattle.mission.specs.Lines.{number_field, or_none, raw_target}
 use Rattle.mission.specs.Pages.{Laid}
 use Rattle.mission.specs.Pieces.{end, pieces, kind_field, target_fields}

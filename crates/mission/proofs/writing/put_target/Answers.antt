@@ -1,4 +1,4 @@
-use Rattle.std.proofs.Common.{◌≡◌, List, [], ◌∷◌, ◌++◌, pos, codes, sym, refl, ap, ◌∙◌, subst, arith}
+use Rattle.std.proofs.Common.{[], ◌∷◌, ◌++◌, pos, codes, sym, subst, arith}
 use Rattle.text.specs.Numeral.{numeral}
 use Rattle.mission.specs.declared.node.Target.{Target}
 use Rattle.mission.specs.Lines.{raw_target}

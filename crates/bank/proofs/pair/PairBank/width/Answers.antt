@@ -1,4 +1,4 @@
-use Rattle.std.proofs.Common.{sym, arith}
+use Rattle.std.proofs.Common.{arith}
 use Rattle.bank.specs.Pairs.{paired_width}
 use Rattle.bank.proofs.pair.PairBank.width.Goals as goal
 

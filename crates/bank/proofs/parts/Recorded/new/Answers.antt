@@ -1,4 +1,4 @@
-use Rattle.std.proofs.Common.{◌≡◌, ◌≤◌, true, length, take, sym, refl, ◌∙◌, arith}
+use Rattle.std.proofs.Common.{◌≡◌, ◌≤◌, true, sym, refl, arith}
 use Rattle.bank.specs.Recording.{recordable}
 use Rattle.bank.proofs.Records.{narrow, short, holds}
 use Rattle.bank.proofs.parts.Recorded.new.Goals as goal

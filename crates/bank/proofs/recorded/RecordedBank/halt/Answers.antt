@@ -1,9 +1,7 @@
-use Rattle.std.proofs.Common.{cond, get_or, take, Some, None, Ok, Err, sym, refl, ap, ◌∙◌, arith}
-use Rattle.std.proofs.lemmas.List.{get_or_default}
+use Rattle.std.proofs.Common.{cond, get_or, take, Ok, Err, refl, ap, arith}
 use Rattle.bank.specs.declared.bank_fault.BankFault.TheVariants.{Idle}
-use Rattle.bank.specs.declared.parts.RecordedSkill.{RecordedSkill}
-use Rattle.bank.specs.Skills.{halt_reply, struck, with_given}
-use Rattle.bank.specs.Recording.{recorded_skill, rows_of}
+use Rattle.bank.specs.Skills.{halt_reply, struck}
+use Rattle.bank.specs.Recording.{rows_of}
 use Rattle.bank.proofs.Records.{struck_later}
 use Rattle.bank.specs.Rolls.{recorded_out, recorded_in, recorded_set}
 use Rattle.bank.proofs.recorded.RecordedBank.halt.Goals as goal

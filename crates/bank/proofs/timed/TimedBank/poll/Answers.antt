@@ -1,4 +1,4 @@
-use Rattle.std.proofs.Common.{◌+◌, get_or, Some, None, sym, refl, ap, ◌∙◌, arith, rules}
+use Rattle.std.proofs.Common.{◌+◌, get_or, Some, None, refl, ap, ◌∙◌, arith, rules}
 use Rattle.bank.specs.declared.parts.TimedSkill.{TimedSkill}
 use Rattle.std.proofs.lemmas.List.{get_or_default}
 use Rattle.bank.specs.Skills.{poll_reply, polled, with_given}

@@ -1,4 +1,4 @@
-use Rattle.std.proofs.Common.{cond, get_or, Some, None, Ok, Err, sym, refl, ap, ◌∙◌, arith}
+use Rattle.std.proofs.Common.{cond, Some, Ok, Err, sym, refl, ap, arith}
 use Rattle.std.proofs.lemmas.List.{get_or_default}
 use Rattle.bank.specs.declared.bank_fault.BankFault.TheVariants.{Running}
 use Rattle.bank.specs.declared.parts.TimedSkill.{TimedSkill}

@@ -1,4 +1,4 @@
-use Rattle.std.proofs.Common.{sym, ◌∙◌, arith}
+use Rattle.std.proofs.Common.{arith}
 use Rattle.board.specs.declared.pair.AbilityPair.{AbilityPair}
 use Rattle.board.proofs.Placing.{place_found, place_more, place_all}
 use Rattle.board.proofs.parts.AbilityPairs.place.Goals as goal

@@ -1,7 +1,7 @@
-use Rattle.std.proofs.Common.{◌+◌, ◌+ℤ◌, sym, refl, ◌∙◌, arith, w32, SFits, rules}
-use Rattle.std.proofs.lemmas.Int.{ints, to_z-of_z}
+use Rattle.std.proofs.Common.{◌+◌, ◌+ℤ◌, sym, refl, arith}
+use Rattle.std.proofs.lemmas.Int.{ints}
 use Rattle.entry.specs.Abilities.{gain}
-use Rattle.entry.proofs.Making.{ability_there, ability_out}
+use Rattle.entry.proofs.Making.{ability_there}
 use Rattle.entry.proofs.ability.AbilityEntry.take.Goals as goal
 
 pub returns : goal.returns

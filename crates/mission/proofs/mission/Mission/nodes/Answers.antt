@@ -1,4 +1,4 @@
-use Rattle.std.proofs.Common.{◌≡◌, length, sym, refl, ap, ◌∙◌, subst, arith, rules}
+use Rattle.std.proofs.Common.{arith, rules}
 use Rattle.mission.specs.Shapes.{shape}
 use Rattle.mission.proofs.Growing.{means, inverse}
 use Rattle.mission.proofs.Runs.{shape_long}

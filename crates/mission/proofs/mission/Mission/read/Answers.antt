@@ -1,7 +1,6 @@
-use Rattle.std.proofs.Common.{◌≡◌, sym, refl, ap, ◌∙◌, subst}
+use Rattle.std.proofs.Common.{sym, ◌∙◌}
 use Rattle.std.proofs.lemmas.Result.{err_from_is_err_and}
 use Rattle.mission.specs.declared.mission.Mission.{Mission}
-use Rattle.mission.specs.declared.tree_fault.TreeFault.TheVariants.{Line}
 use Rattle.mission.specs.Shapes.{shape}
 use Rattle.mission.proofs.Accepting.{outline_ranged, faultless, first_line_fault, first_tree_fault, given_back, refused_outcome, refused_back}
 use Rattle.mission.proofs.mission.Mission.read.Goals as goal

@@ -1,7 +1,7 @@
-use Rattle.std.proofs.Common.{◌≡◌, ℕ, ◌+◌, ◌<◌, ◌≤◌, List, [], ◌∷◌, ◌++◌, length, take, drop, sym, refl, ap, ◌∙◌, subst, arith}
+use Rattle.std.proofs.Common.{◌≡◌, ℕ, ◌+◌, ◌<◌, ◌≤◌, List, ◌++◌, length, drop, refl, ap, ◌∙◌, arith}
 use Rattle.mission.specs.declared.mission.Mission.{Mission}
 use Rattle.mission.specs.Missions.{meaning}
-use Rattle.mission.specs.Pages.{laid, Laid}
+use Rattle.mission.specs.Pages.{Laid}
 use Rattle.mission.specs.Texts.{text, Faultless}
 use Rattle.mission.proofs.Accepting.{outline_ranged, faultless, given_back}
 use Rattle.mission.proofs.Laying.{laid_fits}

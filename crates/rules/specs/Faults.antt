@@ -2,8 +2,8 @@
 use Rattle.std.specs.Prelude.{ℕ}
 use Rattle.fault.specs.declared.layer.Layer.{Layer}
 use Rattle.fault.specs.declared.layer.Layer.TheVariants.{Sitting}
-use Rattle.bank.specs.Faults.{number as bank_number, layer as bank-layer}
-use Rattle.board.specs.Faults.{number as board_number, layer as board-layer}
+use Rattle.bank.specs.Faults.{number as bank_number, layer as bank_layer}
+use Rattle.board.specs.Faults.{number as board_number, layer as board_layer}
 use Rattle.rules.specs.declared.sitting_fault.SittingFault.{SittingFault}
 use Rattle.rules.specs.declared.sitting_fault.SittingFault.TheVariants.{PlaceOpen, PlaceClosed, SkillBeyond, SkillRuns, SkillsDiffer, BoardSmall, TraceLength, TraceFull, OtherSlip, Bank, Board}
 
@@ -30,8 +30,8 @@ layer BoardSmall = Sitting
 layer TraceLength = Sitting
 layer TraceFull = Sitting
 layer OtherSlip = Sitting
-layer (Bank fault) = bank-layer fault
-layer (Board fault) = board-layer fault
+layer (Bank fault) = bank_layer fault
+layer (Board fault) = board_layer fault
 
 abbrev pub line : SittingFault → ℕ
 line fault = 0

@@ -113,9 +113,9 @@ abbrev pub par_step : {W : Type 0} → Visit W Live → (W → Visit W Kids) →
 par_step (gives a w f x) rest = beside (kept_as a) f x (rest w)
 
 abbrev pub par_end : {W : Type 0} → ℕ → Status → W → (W → W) → List ℕ → Kids → Visit W Live
-par_end need Run w halt-open f ks = gives Run w f (live_par need ks)
-par_end need Pass w halt-open f ks = gives Pass (halt-open w) [] (live_par need (after_par ks))
-par_end need Fail w halt-open f ks = gives Fail (halt-open w) [] (live_par need (after_par ks))
+par_end need Run w halt_open f ks = gives Run w f (live_par need ks)
+par_end need Pass w halt_open f ks = gives Pass (halt_open w) [] (live_par need (after_par ks))
+par_end need Fail w halt_open f ks = gives Fail (halt_open w) [] (live_par need (after_par ks))
 
 -- not
 

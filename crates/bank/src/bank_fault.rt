@@ -1,5 +1,5 @@
 // Why a bank refuses: a number out of range at making, or a call on a skill.
-ghost use Rattle.bank.specs.Faults.{number as number_of_lem, layer as layer_of, line as line_of};
+ghost use Rattle.bank.specs.Faults.{number as number_of, layer as layer_of, line as line_of};
 
 use fault::layer::Layer;
 use fault::refusal::Refusal;
@@ -13,7 +13,7 @@ pub enum BankFault {
 }
 
 impl Refusal for BankFault {
-    ghost numbered = { number_of_lem };
+    ghost numbered = { number_of };
 
     ghost layered = { layer_of };
 

@@ -27,7 +27,7 @@ impl AbilityCells {
 impl Board<Ability> for AbilityCells {
     ghost entries = { ability_cells };
 
-    ghost few = { first_of (Prim.search rules, Prim.grind (arith, Self.row.coded.inj)) };
+    ghost few = { Prim.search rules };
 
     fn size(&self) -> u8 {
         self.size

@@ -19,7 +19,7 @@ fn filler() -> AbilityPair
     ensures { result.key ≡ 0 }
 {
     let Ok(held) = Ability::new(0, 1) else {
-        unreachable()
+        unreachable!()
     };
     AbilityPair { key: 0, held }
 }

@@ -1,5 +1,5 @@
 // Why a board refuses: its size at making, or a key at or beyond its size.
-ghost use Rattle.board.specs.Faults.{number as number_of_lem, layer as layer_of, line as line_of};
+ghost use Rattle.board.specs.Faults.{number as number_of, layer as layer_of, line as line_of};
 
 use fault::layer::Layer;
 use fault::refusal::Refusal;
@@ -11,7 +11,7 @@ pub enum BoardFault {
 }
 
 impl Refusal for BoardFault {
-    ghost numbered = { number_of_lem };
+    ghost numbered = { number_of };
 
     ghost layered = { layer_of };
 

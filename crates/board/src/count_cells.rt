@@ -27,7 +27,7 @@ impl CountCells {
 impl Board<Count> for CountCells {
     ghost entries = { count_cells };
 
-    ghost few = { first_of (Prim.search rules, Prim.grind (arith, Self.row.coded.inj)) };
+    ghost few = { Prim.search rules };
 
     fn size(&self) -> u8 {
         self.size

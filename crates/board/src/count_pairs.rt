@@ -19,7 +19,7 @@ fn filler() -> CountPair
     ensures { result.key ≡ 0 }
 {
     let Ok(held) = Count::new(0) else {
-        unreachable()
+        unreachable!()
     };
     CountPair { key: 0, held }
 }

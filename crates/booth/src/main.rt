@@ -8,8 +8,8 @@ mod verdict;
 use crate::command::{Verb, verb_of};
 use crate::refusals::{refused_line, words};
 use crate::verdict::{Verdict, judge};
-use anyhow::anyhow;
 use std::io::Write;
+use std::process::ExitCode;
 use std::{env, fs};
 
 const USAGE: &str = "usage: booth check FILE    judge a mission text and print it back
@@ -79,9 +79,9 @@ fn run(rt: &HostRuntime) -> anyhow::Result<Ending> {
     Ok(Ending::Refused)
 }
 
-fn main(rt: HostRuntime) -> anyhow::Result<()> {
+fn main(rt: HostRuntime) -> anyhow::Result<ExitCode> {
     match run(&rt)? {
-        Ending::Done => Ok(()),
-        Ending::Refused => Err(anyhow!("refused")),
+        Ending::Done => Ok(ExitCode::SUCCESS),
+        Ending::Refused => Ok(ExitCode::FAILURE),
     }
 }

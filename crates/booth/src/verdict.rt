@@ -27,7 +27,7 @@ pub fn judge(heap: Global, text: &[u8]) -> Result<Verdict, AllocError>
     }
     let mut page = vec![in heap; 0u8; text.len()]?;
     let Ok(len) = mission.write(page.as_mut_slice()) else {
-        return unreachable();
+        unreachable!()
     };
     page.truncate(len);
     Ok(Verdict::Accepted {

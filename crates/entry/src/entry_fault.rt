@@ -1,5 +1,5 @@
 // The one refusal of making a part of an entry from plain numbers.
-ghost use Rattle.entry.specs.Faults.{number as number_of_lem, layer as layer_of, line as line_of};
+ghost use Rattle.entry.specs.Faults.{number as number_of, layer as layer_of, line as line_of};
 
 use fault::layer::Layer;
 use fault::refusal::Refusal;
@@ -10,7 +10,7 @@ pub enum EntryFault {
 }
 
 impl Refusal for EntryFault {
-    ghost numbered = { number_of_lem };
+    ghost numbered = { number_of };
 
     ghost layered = { layer_of };
 

@@ -1,5 +1,5 @@
 ghost use Rattle.std.specs.Prelude.{◌≡◌};
-ghost use Rattle.mission.specs.Lawful.{number as number_of_lem};
+ghost use Rattle.mission.specs.Lawful.{number as number_of};
 
 // The ways in which a node can break the law of the tree.
 #[derive(Clone, Copy, PartialEq, Eq, Debug)]
@@ -19,7 +19,7 @@ pub enum Breach {
 impl Breach {
     // Its number among the refusals.
     pub fn number(self) -> u8
-        ensures { result ≡ number_of_lem self }
+        ensures { result ≡ number_of self }
     {
         self as u8
     }

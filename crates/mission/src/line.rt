@@ -3,7 +3,7 @@ ghost use Rattle.std.specs.Prelude.{◌≡◌, true, false, pos, MatchResult};
 ghost use Rattle.text.specs.Numeral.{within};
 ghost use Rattle.text.specs.Seen.{left};
 ghost use Rattle.mission.specs.Lines.{JudgedLine};
-ghost use Rattle.mission.specs.Parsing.{inner_kinds, kind_among, kind as kind_of_word, target_of as aim_of, target as target_in, skill as skill_in, ability as ability_in, filled as FilledIn, parsed};
+ghost use Rattle.mission.specs.Parsing.{inner_kinds, kind_among, kind as kind_of_word, target_of as aim_of, target as target_in, skill as skill_in, ability as ability_in, filled as filled_in, parsed};
 
 use crate::flaw::Flaw;
 use crate::node::{GroupKind, LoopKind, Node};
@@ -109,7 +109,7 @@ fn ability(fields: Fields) -> Option<RawNode>
 
 // The fields after the first of a node line of this kind.
 fn filled(fields: Fields, kind: NodeKind) -> Option<RawNode>
-    ensures { result ≡ FilledIn (left fields.entry) kind }
+    ensures { result ≡ filled_in (left fields.entry) kind }
 {
     match kind {
         NodeKind::Group(kind) => {

@@ -1,6 +1,6 @@
 // Why a sitting refuses a call.
 ghost use Rattle.std.specs.Prelude.{◌≡◌};
-ghost use Rattle.rules.specs.Faults.{number as number_of_lem, layer as layer_of, line as line_of};
+ghost use Rattle.rules.specs.Faults.{number as number_of, layer as layer_of, line as line_of};
 ghost use Rattle.rules.specs.declared.sitting_fault.SittingFault.TheVariants.{Bank as ABank, Board as ABoard};
 
 use bank::bank_fault::BankFault;
@@ -41,7 +41,7 @@ impl From<BoardFault> for SittingFault {
 }
 
 impl Refusal for SittingFault {
-    ghost numbered = { number_of_lem };
+    ghost numbered = { number_of };
 
     ghost layered = { layer_of };
 

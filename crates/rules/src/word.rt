@@ -1,5 +1,5 @@
 ghost use Rattle.std.specs.Prelude.{◌≡◌};
-ghost use Rattle.rules.specs.Lines.{number as number_of_lem};
+ghost use Rattle.rules.specs.Lines.{number as number_of};
 
 // What a trace line tells: of a skill, or of the root.
 #[derive(Clone, Copy, PartialEq, Eq, Debug)]
@@ -21,7 +21,7 @@ pub enum Word {
 impl Word {
     // Its number in a trace line.
     pub fn number(self) -> u8
-        ensures { result ≡ number_of_lem self }
+        ensures { result ≡ number_of self }
     {
         self as u8
     }

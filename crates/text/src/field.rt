@@ -1,7 +1,7 @@
 // The fields of a line, taken one by one.
 ghost use Rattle.std.specs.Prelude.{◌≡◌, IfSome, Some};
 ghost use Rattle.std.specs.Option.{option_map};
-ghost use Rattle.text.specs.Fields.{numeric, next as next_part, next_field, word as word_of, number as number_of_lem, number_or, last, one_ended, pair_ended};
+ghost use Rattle.text.specs.Fields.{numeric, next as next_part, next_field, word as word_of, number as number_of, number_or, last, one_ended, pair_ended};
 ghost use Rattle.text.specs.Seen.{left, name_of, value_of, line_of, is_number, seen_field, seen_word, seen_number, seen_number_or};
 
 use crate::cut::{cut, same};
@@ -129,7 +129,7 @@ impl<'a> Fields<'a> {
 
     // The number that the next field, which has this name, writes, and what is left.
     pub fn number(self, name: &[u8]) -> Option<(i32, Fields<'a>)>
-        ensures number { seen_number result ≡ number_of_lem name.now (left self.entry) }
+        ensures number { seen_number result ≡ number_of name.now (left self.entry) }
         ensures line { IfSome result (λ p. p.1.line ≡ self.entry.line) }
     {
         let (value, after) = self.word(name)?;

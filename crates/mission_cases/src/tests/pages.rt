@@ -51,7 +51,11 @@ fn check_fits(
     told: &str,
 ) -> Result<(), Fail> {
     let mut lent = page(heap, b"", len)?;
-    assert_eq!(rt; mission.write(lent.as_mut_slice())?, text.len(), "{told}");
+    let written = match mission.write(lent.as_mut_slice()) {
+        Ok(written) => written,
+        Err(fault) => return Err(Fail::new(format_args!("error: {fault:?}: {told}"))),
+    };
+    assert_eq!(rt; written, text.len(), "{told}");
     assert_eq!(rt; lent, page(heap, text, len)?, "{told}");
     Ok(())
 }

@@ -6,11 +6,13 @@ use Rattle.bank.specs.declared.bank_fault.BankFault.{BankFault}
 use Rattle.bank.specs.declared.bank_fault.BankFault.TheVariants.{Running, Idle}
 use Rattle.bank.specs.declared.kinds.Ending.{Ending}
 use Rattle.bank.specs.declared.kinds.Ending.TheVariants.{Fail}
+use Rattle.bank.specs.declared.kinds.Reply.{Reply}
 use Rattle.bank.specs.declared.kinds.Reply.TheVariants.{Run, Ended}
 use Rattle.bank.specs.Skills.{Skill, no_skill, runs_now, asked, leaves, start_reply, halt_reply, poll_reply, started, struck, polled}
-use Rattle.bank.specs.Calls.{asked_in, asked_out, asked_ok, poll_said_run, poll_said_end, poll_said_err, poll_idle, runs_some, poll_run, poll_end}
+use Rattle.bank.proofs.Calls.{asked_in, asked_out, asked_ok, poll_said_run, poll_said_end, poll_said_err, poll_idle, runs_some, poll_run, poll_end}
 use Rattle.bank.specs.Capping.{capped, capped_at, capped_skills}
-use Rattle.bank.specs.Caps.{caps_length, caps_at, caps_set, caps_both, capped_runs, capped_started, capped_struck, goes_on, cut_off, comes_up}
+use Rattle.bank.specs.CapSounds.{caps_length, caps_at}
+use Rattle.bank.proofs.Caps.{caps_set, caps_both, capped_runs, capped_started, capped_struck, goes_on, cut_off, comes_up}
 
 abbrev halted_said : Bool → Result Unit BankFault
 halted_said b = cond b (Ok tt) (Err Idle)
@@ -52,11 +54,11 @@ module _ (m : ℕ) (cs : List ℕ) (l : List Skill) (k : ℕ) where
 
   ok_halt : (s : Skill) (b : Bool) → runs_now s ≡ b → halted_said b ≡ Ok tt → runs_now s ≡ true
   ok_halt s true h e = h
-  ok_halt s false h e = let z : ◌≡◌ {A = ℕ} 0 1 = cc in absurd (omega arith)
+  ok_halt s false h e = absurd cc
 
   ok_start : (s : Skill) (b : Bool) → runs_now s ≡ b → started_said b ≡ Ok tt → runs_now s ≡ false
   ok_start s false h e = h
-  ok_start s true h e = let z : ◌≡◌ {A = ℕ} 0 1 = cc in absurd (omega arith)
+  ok_start s true h e = absurd cc
 
   pub halt_after : (r : Result Unit BankFault) → r ≡ asked halt_reply l k → capped_skills m cs (leaves struck r l k) ≡ leaves struck r caps k
   halt_after (Err x) e = refl
@@ -79,7 +81,7 @@ module _ (m : ℕ) (cs : List ℕ) (l : List Skill) (k : ℕ) where
       (λ ge. sym e ∙ asked_out poll_reply l k ge ∙ sym (asked_out poll_reply caps k (omega (arith, caps_length m cs l))))
       (cases_lt k (length l))
 
-  pub poll_ended : (x : Ending) → asked poll_reply l k ≡ Ok (Ended x)
+  poll_ended : (x : Ending) → asked poll_reply l k ≡ Ok (Ended x)
       → (Ok (Ended x) ≡ asked poll_reply caps k) × (capped_skills m cs (set l k (polled here)) ≡ set caps k (polled (get_or caps k no_skill)))
   poll_ended x e =
       let p = asked_ok poll_reply l k (Ended x) e in
@@ -91,6 +93,11 @@ module _ (m : ℕ) (cs : List ℕ) (l : List Skill) (k : ℕ) where
         ap (λ y. capped_skills m cs (set l k y)) b.1 ∙ caps_set m cs l k (struck here)
             ∙ ap (set caps k) (capped_struck m own here (runs_some here q.0 q.1) ∙ sym u.1 ∙ ap polled (sym at)),
       )
+
+  pub poll_done : (x : Reply) → (x ≡ Run → ⊥) → asked poll_reply l k ≡ Ok x
+      → (Ok x ≡ asked poll_reply caps k) × (capped_skills m cs (set l k (polled here)) ≡ set caps k (polled (get_or caps k no_skill)))
+  poll_done Run f e = absurd (f refl)
+  poll_done (Ended x) f e = poll_ended x e
 
   pub poll_goes_on : k < length cs → asked poll_reply l k ≡ Ok Run → own < m
       → (Ok Run ≡ asked poll_reply caps k) × (capped_skills m (set cs k (own + 1)) (set l k (polled here)) ≡ set caps k (polled (get_or caps k no_skill)))

@@ -1,13 +1,23 @@
 -- The skills below halted one after the other, and a cap over idle skills.
-use Rattle.std.proofs.Common.{◌≡◌, ℕ, ◌+◌, ◌<◌, ◌≤◌, cond, List, [], ◌∷◌, ◌++◌, map, length, get_or, take, drop, set, is_some, Some, None, Option, sym, refl, ap, ◌∙◌, ⊎_elim, arith}
-use Rattle.std.proofs.lemmas.Bool.{cases_lt}
-use Rattle.std.proofs.lemmas.List.{append_assoc, append-nil, length-map, length-take-le, get_or_at, set_at, set_past, take_all, drop_all, drop_more, map_more}
-use Rattle.bank.specs.Skills.{Skill, Take, no_skill, struck}
+use Rattle.std.proofs.Common.{◌≡◌, ℕ, ◌+◌, ◌<◌, Bool, true, false, cond, List, [], ◌∷◌, ◌++◌, map, length, get_or, take, drop, set, is_some, Some, None, Ok, Err, Option, Result, sym, refl, ap, ◌∙◌, arith}
+use Rattle.std.proofs.lemmas.Bool.{cond-true, cond-false}
+use Rattle.std.proofs.lemmas.List.{append_assoc, length-append, length-drop, length-map, length-take-le, get_or_at, set_at, set-get_or, drop_more, map_more}
+use Rattle.bank.specs.declared.bank_fault.BankFault.{BankFault}
+use Rattle.bank.specs.declared.bank_fault.BankFault.TheVariants.{Idle}
+use Rattle.bank.specs.Skills.{Skill, no_skill, runs_now, asked, leaves, halt_reply, struck}
+use Rattle.bank.proofs.Calls.{asked_in, skill_of}
 use Rattle.bank.specs.Capping.{capped, capped_at, capped_take, capped_skills, shortened, halted}
 
 -- the first n halted
 abbrev pub halted_first : ℕ → List Skill → List Skill
 halted_first n l = map halted (take n l) ++ drop n l
+
+-- a halt leaves the skill halted, also where it is refused
+halt_by : (l : List Skill) (k : ℕ) (r : Result Unit BankFault) (b : Bool) → runs_now (get_or l k no_skill) ≡ b → r ≡ cond b (Ok tt) (Err Idle)
+    → leaves struck r l k ≡ set l k (halted (get_or l k no_skill))
+halt_by l k r true runs said = ap (λ q. leaves struck q l k) said ∙ ap (set l k) (sym (cond-true (runs_now (get_or l k no_skill)) _ _ runs))
+halt_by l k r false runs said =
+    ap (λ q. leaves struck q l k) said ∙ sym (set-get_or l k no_skill) ∙ ap (set l k) (sym (cond-false (runs_now (get_or l k no_skill)) _ _ runs))
 
 module _ (l : List Skill) (n : ℕ) where
   abbrev done : List Skill
@@ -16,8 +26,8 @@ module _ (l : List Skill) (n : ℕ) where
   abbrev one : Skill
   one = get_or l n no_skill
 
-  more_in : n < length l → set (halted_first n l) n (halted (get_or (halted_first n l) n no_skill)) ≡ halted_first (n + 1) l
-  more_in h =
+  one_more : n < length l → set (halted_first n l) n (halted (get_or (halted_first n l) n no_skill)) ≡ halted_first (n + 1) l
+  one_more h =
       let rest = drop (n + 1) l in
       let p : length done ≡ n = length-map (take n l) halted ∙ length-take-le n l (omega arith) in
       ap (λ t. set (done ++ t) n (halted (get_or (done ++ t) n no_skill))) (drop_more l n no_skill h)
@@ -26,19 +36,12 @@ module _ (l : List Skill) (n : ℕ) where
       ∙ sym (append_assoc done (halted one ∷ []) rest)
       ∙ sym (ap (λ t. t ++ rest) (map_more halted l n no_skill h))
 
-  all_done : (m : ℕ) → length l ≤ m → halted_first m l ≡ map halted l
-  all_done m h = ap (λ t. map halted t ++ drop m l) (take_all m l h) ∙ ap (λ t. map halted l ++ t) (drop_all m l h) ∙ append-nil (map halted l)
-
-  more_out : length l ≤ n → set (halted_first n l) n (halted (get_or (halted_first n l) n no_skill)) ≡ halted_first (n + 1) l
-  more_out h =
-      let a = all_done n h in
-      set_past (halted_first n l) n _ (omega (arith, ap length a, length-map l halted)) ∙ a ∙ sym (all_done (n + 1) (omega arith))
-
-  pub halted_more : set (halted_first n l) n (halted (get_or (halted_first n l) n no_skill)) ≡ halted_first (n + 1) l
-  halted_more = ⊎_elim more_in more_out (cases_lt n (length l))
-
-  pub halted_all : length l ≤ n → halted_first n l ≡ map halted l
-  halted_all h = all_done n h
+  pub halted_more : (m new : List Skill) (r : Result Unit BankFault) → n < length l → m ≡ halted_first n l → r ≡ asked halt_reply m n → new ≡ leaves struck r m n
+      → new ≡ halted_first (n + 1) l
+  halted_more m new r h so_far answer left =
+      let p : length m ≡ length l = ap length so_far ∙ omega (arith, length-append done (drop n l), length-map (take n l) halted, length-take-le n l (omega arith), length-drop n l) in
+      left ∙ halt_by m n r _ refl (answer ∙ asked_in halt_reply m n (omega arith))
+      ∙ ap (λ t. set t n (halted (get_or t n no_skill))) so_far ∙ one_more h
 
 pub halted_idle : (s : Skill) → (halted s).given ≡ None
 halted_idle s = idle_at s.given refl
@@ -46,9 +49,6 @@ halted_idle s = idle_at s.given refl
     idle_at : (o : Option ℕ) → s.given ≡ o → (cond (is_some o) (struck s) s).given ≡ None
     idle_at None e = e
     idle_at (Some g) e = refl
-
-abbrev skill_of : (ℕ → Take) → Option ℕ → Skill
-skill_of t g = record { takes = t; given = g }
 
 pub capped_idle : (m c : ℕ) (s : Skill) → s.given ≡ None → capped m c s ≡ shortened m s
 capped_idle m c s e = ap (λ o. capped_at m c o s) e ∙ sym (ap (skill_of (λ n. capped_take m (s.takes n))) e)

@@ -1,126 +1,84 @@
--- The takes given for a skill, row by row.
-use Rattle.std.proofs.Common.{◌≡◌, ℕ, zero, suc, ◌+◌, ◌<◌, ◌≤◌, Bool, true, false, ◌&&◌, eqb, leb, ◌≢◌, List, [], ◌∷◌, ◌++◌, map, length, get_or, take, drop, set, None, sym, refl, ap, ◌∙◌, subst, ⊎_elim, arith}
-use mathlib.Core.Path.{fun_ext}
-use borrow.Author.Tests.{clash}
-use Rattle.std.proofs.lemmas.List.{at_drop_more, at_drop_all, get_or-set_same, get_or-set_other, take_more, take_more_set}
-use Rattle.std.proofs.lemmas.Bool.{cond-true, cond-false, cases_lt, eq-eqb, ne_eqb, lt-ltb, le-ltb, le-leb, lt-leb, leb-true}
-use Rattle.bank.specs.Skills.{Skill, Take, front, no_take, no_skill, struck}
+-- The takes given for a skill: those that a search finds, and what calls leave of them.
+use Rattle.std.proofs.Common.{◌≡◌, ℕ, zero, suc, ◌+◌, ◌<◌, ◌≤◌, Bool, true, false, cond, not, eqb, ltb, List, [], ◌∷◌, length, get_or, drop, Some, None, Ok, Err, Result, refl, sym, ap, ◌∙◌, ⊎_elim, arith}
+use Rattle.std.proofs.Math.Path.{fun_ext}
+use Rattle.std.specs.List.{position, position_or_len}
+use Rattle.std.proofs.lemmas.List.{drop-drop, get_or-drop, drop_all}
+use Rattle.std.proofs.lemmas.List.Quantifiers.{position-Some}
+use Rattle.std.proofs.lemmas.Bool.{cond-true, cond-false, cases_lt, cases_Bool, lt-ltb}
+use Rattle.bank.specs.declared.bank_fault.BankFault.{BankFault}
+use Rattle.bank.specs.declared.kinds.Ending.TheVariants.{Fail}
+use Rattle.bank.specs.declared.parts.FirstTake.{FirstTake}
 use Rattle.bank.specs.declared.parts.GivenTake.{GivenTake}
+use Rattle.bank.specs.declared.parts.Take.{Take as StoredTake}
 use Rattle.bank.specs.declared.parts.RecordedSkill.{RecordedSkill}
-use Rattle.bank.specs.Recording.{Begun, Holds, row_take, given_takes, given_skill, recorded_skill, all_below, recordable}
-use Rattle.bank.specs.Rows.{rows_length, rows_at}
+use Rattle.bank.proofs.Calls.{skill_of, taking}
+use Rattle.bank.specs.Recording.{given_takes, given_skill, recorded_skill}
+use Rattle.bank.specs.Skills.{Skill, Take, front, no_take, started, left_by}
+use Rattle.bank.specs.Timing.{take_of, timed_skill}
 
-abbrev idle_of : (ℕ → Take) → Skill
-idle_of t = record { takes = t; given = None }
+-- a start of the first take, and the skill with its later takes
+module _ (rows : List GivenTake) (s : RecordedSkill) (f : FirstTake) where
+  abbrev with_later : Skill → Skill
+  with_later q = record { takes = front (q.takes 0) (given_takes s.skill (drop s.next rows)); given = q.given }
+
+  abbrev moved : Skill
+  moved = recorded_skill rows (record { skill = s.skill; first = f; next = s.next })
+
+  pub first_started : (r : Result Unit BankFault) → timed_skill f ≡ left_by started r (timed_skill s.first) → moved ≡ left_by started r (recorded_skill rows s)
+  first_started (Ok u) e = ap with_later e
+  first_started (Err x) e = ap with_later e
+
+abbrev pub is_for : ℕ → GivenTake → Bool
+is_for k t = eqb t.skill k
+
+past_given : (k : ℕ) (rows : List GivenTake) → length rows ≤ position_or_len (is_for k) rows → given_takes k rows ≡ (λ _. no_take)
+past_given k [] h = refl
+past_given k (t ∷ rows) h =
+    let n = position_or_len (is_for k) rows in
+    ⊎_elim
+    (λ e. absurd (omega (arith, ap (λ b. cond (not b) (1 + n) 0) e)))
+    (λ e. cond-false (is_for k t) _ _ e ∙ past_given k rows (omega (arith, ap (λ b. cond (not b) (1 + n) 0) e)))
+    (cases_Bool (is_for k t))
+
+none_given : (k : ℕ) (rows : List GivenTake) → position (is_for k) rows ≡ None → given_takes k rows ≡ (λ _. no_take)
+none_given k rows e =
+    let n = position_or_len (is_for k) rows in
+    ⊎_elim
+    (λ h. let s : cond (ltb n (length rows)) (Some n) None ≡ Some n = cond-true (ltb n (length rows)) _ _ (lt-ltb n (length rows) h) in absurd (cc))
+    (past_given k rows)
+    (cases_lt n (length rows))
+
+first_given : (k : ℕ) (rows : List GivenTake) (i : ℕ) (d : GivenTake) → i < length rows → is_for k (get_or rows i d) ≡ true → ((j : ℕ) → j < i → is_for k (get_or rows j d) ≡ false)
+    → given_takes k rows ≡ front (take_of (get_or rows i d).take) (given_takes k (drop (suc i) rows))
+first_given k [] i d h at before = absurd (omega arith)
+first_given k (t ∷ rows) zero d h at before = cond-true (is_for k t) _ _ at
+first_given k (t ∷ rows) (suc i) d h at before =
+    cond-false (is_for k t) _ _ (before 0 (omega arith)) ∙ first_given k rows i d (omega arith) at (λ j l. before (suc j) (omega arith))
 
 always : (n : ℕ) → front no_take (λ _. no_take) n ≡ no_take
 always zero = refl
 always (suc n) = refl
 
-module _ (k : ℕ) (rows : List GivenTake) (i : ℕ) where
-  pub given_here : (d : GivenTake) → i < length rows → (get_or rows i d).skill ≡ k
-      → given_takes k (drop i rows) ≡ front (row_take (get_or rows i d)) (given_takes k (drop (i + 1) rows))
-  given_here d h e =
-      at_drop_more (given_takes k) rows i d h ∙ cond-true (eqb (get_or rows i d).skill k) _ _ (eq-eqb (get_or rows i d).skill k e)
-
-  pub given_later : (d : GivenTake) → i < length rows → ((get_or rows i d).skill ≡ k → ⊥) → given_takes k (drop i rows) ≡ given_takes k (drop (i + 1) rows)
-  given_later d h e =
-      at_drop_more (given_takes k) rows i d h ∙ cond-false (eqb (get_or rows i d).skill k) _ _ (ne_eqb (get_or rows i d).skill k e)
-
-  pub given_none : length rows ≤ i → given_takes k (drop i rows) ≡ (λ _. no_take)
-  given_none h = at_drop_all (given_takes k) rows i h
-
-pub front_none : front no_take (λ _. no_take) ≡ (λ _. no_take)
-front_none = fun_ext always
-
 -- a search from one row on: a row found, and none
-module _ (k : ℕ) (rows : List GivenTake) (i : ℕ) (all : ℕ → Take) (so_far : given_takes k (drop i rows) ≡ all) where
-  pub found : (row d : GivenTake) → row ≡ get_or rows i d → i < length rows → row.skill ≡ k
-      → idle_of (front (row_take row) (given_takes row.skill (drop (i + 1) rows))) ≡ idle_of all
-  found row d q h e =
-      let here = get_or rows i d in
-      let rest = drop (i + 1) rows in
-      let same : here.skill ≡ k = ap (λ (x : GivenTake). x.skill) (sym q) ∙ e in
-      ap idle_of
-      (ap (λ (x : GivenTake). front (row_take x) (given_takes x.skill rest)) q
-      ∙ ap (λ s. front (row_take here) (given_takes s rest)) same ∙ sym (given_here k rows i d h same) ∙ so_far)
+module _ (k : ℕ) (rows : List GivenTake) (from : ℕ) (f : FirstTake) (next : ℕ) where
+  abbrev made : Skill
+  made = recorded_skill rows (record { skill = k; first = f; next = next })
 
-  pub none_found : length rows ≤ i → idle_of (front no_take (given_takes k (drop (length rows) rows))) ≡ idle_of all
-  none_found h =
-      ap idle_of (ap (front no_take) (given_none k rows (length rows) (omega arith)) ∙ front_none ∙ sym (given_none k rows i h) ∙ so_far)
+  pub idle_found : (at : ℕ) (d : GivenTake) → position (is_for k) (drop from rows) ≡ Some at → f.take ≡ (get_or rows (from + at) d).take → f.given ≡ None
+      → next ≡ suc (from + at) → made ≡ given_skill (drop from rows) k
+  idle_found at d p t idle n =
+      let here = get_or (drop from rows) at d in
+      let s = position-Some (is_for k) (drop from rows) at d p in
+      let g = first_given k (drop from rows) at d s.0 s.1 s.2 in
+      let later : drop next rows ≡ drop (suc at) (drop from rows) = ap (λ i. drop i rows) {y = from + suc at} (omega arith) ∙ sym (drop-drop (suc at) from rows) in
+      ap (λ (x : StoredTake). skill_of (front (take_of x) (given_takes k (drop next rows))) f.given) (t ∙ ap (λ (x : GivenTake). x.take) (sym (get_or-drop from rows at d)))
+      ∙ ap (λ l. skill_of (front (take_of here.take) (given_takes k l)) f.given) later
+      ∙ ap (λ x. skill_of x f.given) (sym g) ∙ ap (skill_of (given_takes k (drop from rows))) idle
 
--- whether every row's skill is below the width, row by row
-module _ (w : ℕ) (rows : List GivenTake) (i : ℕ) (d : GivenTake) (h : i < length rows) where
-  abbrev later : Bool
-  later = all_below w (drop (i + 1) rows)
-
-  pub below_stops : w ≤ (get_or rows i d).skill → all_below w (drop i rows) ≡ false
-  below_stops le = at_drop_more (all_below w) rows i d h ∙ ap (λ b. b && later) (le-ltb (get_or rows i d).skill w le)
-
-  pub below_goes_on : (get_or rows i d).skill < w → all_below w (drop i rows) ≡ later
-  below_goes_on lt = at_drop_more (all_below w) rows i d h ∙ ap (λ b. b && later) (lt-ltb (get_or rows i d).skill w lt)
-
-pub below_done : (w : ℕ) (rows : List GivenTake) (i : ℕ) → length rows ≤ i → all_below w (drop i rows) ≡ true
-below_done w rows i h = at_drop_all (all_below w) rows i h
-
--- whether a recorded bank can hold the rows
-module _ (w : ℕ) (rows : List GivenTake) where
-  pub too_wide : 64 < w → recordable w rows ≡ false
-  too_wide h = ap (λ b. b && (leb (length rows) 1024 && all_below w rows)) (lt-leb w 64 h)
-
-  pub too_many : w ≤ 64 → 1024 < length rows → recordable w rows ≡ false
-  too_many h g =
-      ap (λ b. b && (leb (length rows) 1024 && all_below w rows)) (le-leb w 64 h) ∙ ap (λ b. b && all_below w rows) (lt-leb (length rows) 1024 g)
-
-  pub by_rows : w ≤ 64 → length rows ≤ 1024 → recordable w rows ≡ all_below w rows
-  by_rows h g =
-      ap (λ b. b && (leb (length rows) 1024 && all_below w rows)) (le-leb w 64 h) ∙ ap (λ b. b && all_below w rows) (le-leb (length rows) 1024 g)
-
-  and_left : (a b : Bool) → (a && b) ≡ true → a ≡ true
-  and_left true b e = refl
-  and_left false b e = e
-
-  and_right : (a b : Bool) → (a && b) ≡ true → b ≡ true
-  and_right true b e = e
-  and_right false b e = absurd (clash e)
-
-  pub narrow : recordable w rows ≡ true → w ≤ 64
-  narrow e = leb-true w 64 (and_left (leb w 64) _ e)
-
-  pub short : recordable w rows ≡ true → length rows ≤ 1024
-  short e = leb-true (length rows) 1024 (and_left (leb (length rows) 1024) _ (and_right (leb w 64) _ e))
-
--- one more row copied
-pub copied_more : (t s : List GivenTake) (i : ℕ) (x : GivenTake) → i < length t → i < length s → x ≡ get_or s i x → take i t ≡ take i s
-    → take (i + 1) (set t i x) ≡ take (i + 1) s
-copied_more t s i x ht hs q e =
-    take_more_set t i x ht ∙ ap (λ r. r ++ x ∷ []) e ∙ ap (λ y. take i s ++ y ∷ []) q ∙ sym (take_more s i x hs)
-
--- one more skill begun
-pub begun_more : (rows : List GivenTake) (t : List RecordedSkill) (k : ℕ) (x : RecordedSkill) → k < length t → recorded_skill rows x ≡ given_skill rows k
-    → Begun rows k t → Begun rows (k + 1) (set t k x)
-begun_more rows t k x h e before j d lt =
-    ⊎_elim
-    (λ l. let ne : j ≢ k = omega arith in ap (recorded_skill rows) (get_or-set_other t k j x d ne) ∙ before j d l)
-    (λ g. let same : k ≡ j = omega arith in
-    let P : ℕ → Type 0 = λ n. recorded_skill rows (get_or (set t k x) n d) ≡ given_skill rows n in
-    subst P same (ap (recorded_skill rows) (get_or-set_same t k x d h) ∙ e))
-    (cases_lt j k)
-
--- what the made bank holds
-holds_at : (rows rs : List GivenTake) (t : List RecordedSkill) (w : ℕ) → w ≤ length t → w ≤ 64 → rs ≡ rows → Begun rows 64 t
-    → (k : ℕ) → k < w → get_or (map (recorded_skill rs) (take w t)) k no_skill ≡ given_skill rows k
-holds_at rows rs [] w h few q begun k lt = absurd (omega arith)
-holds_at rows rs (s ∷ t) w h few q begun k lt =
-    rows_at (recorded_skill rs) w (s ∷ t) k s no_skill h lt ∙ ap (λ r. recorded_skill r (get_or (s ∷ t) k s)) q ∙ begun k s (omega arith)
-
-pub holds : (rows rs : List GivenTake) (t : List RecordedSkill) (w : ℕ) → w ≤ length t → w ≤ 64 → rs ≡ rows → Begun rows 64 t
-    → Holds w rows (map (recorded_skill rs) (take w t))
-holds rows rs t w h few q begun = (rows_length (recorded_skill rs) w t h, holds_at rows rs t w h few q begun)
-
--- the first take struck off, and the later ones looked up
-pub struck_later : (rows rs : List GivenTake) (s x : RecordedSkill) → rs ≡ rows → recorded_skill rs x ≡ given_skill (drop s.next rs) s.first.skill
-    → struck (recorded_skill rows s) ≡ recorded_skill rows x
-struck_later rows rs s x e h =
-    let P : List GivenTake → Type 0 = λ r. recorded_skill r x ≡ given_skill (drop s.next r) s.first.skill in
-    sym (subst P e h)
+  pub idle_past : position (is_for k) (drop from rows) ≡ None → f.take.runs ≡ 0 → f.take.ending ≡ Fail → f.given ≡ None → next ≡ length rows
+      → made ≡ given_skill (drop from rows) k
+  idle_past p r e idle n =
+      let t : take_of f.take ≡ no_take = ap (λ m. taking m f.take.ending) r ∙ ap (taking 0) e in
+      ap (λ (x : Take). skill_of (front x (given_takes k (drop next rows))) f.given) t
+      ∙ ap (λ l. skill_of (front no_take (given_takes k l)) f.given) (drop_all next rows (omega arith))
+      ∙ ap (λ x. skill_of x f.given) (fun_ext always ∙ sym (none_given k (drop from rows) p)) ∙ ap (skill_of (given_takes k (drop from rows))) idle

@@ -1,20 +1,18 @@
 -- A cap of 60,000 changes no take, and an idle bank is not changed by halting.
-use Rattle.std.proofs.Common.{◌≡◌, ℕ, suc, ltb, List, [], ◌∷◌, map, get_or, Option, refl, ap, ◌∙◌, arith}
-use mathlib.Core.Path.{fun_ext}
+use Rattle.std.proofs.Common.{◌≡◌, ℕ, suc, ltb, List, [], ◌∷◌, map, get_or, refl, ap, ◌∙◌, arith}
+use Rattle.std.proofs.Math.Path.{fun_ext}
 use Rattle.std.proofs.lemmas.Bool.{cond-false, cond_both, le-ltb}
-use Rattle.bank.specs.Skills.{Skill, Take, Sound, no_skill, runs_now}
+use Rattle.bank.specs.Skills.{Skill, Sound, no_skill, runs_now}
 use Rattle.bank.specs.Capping.{halted, shortened}
 use Rattle.bank.specs.Laws.{AllIdle}
-
-abbrev skill_of : Option ℕ → (ℕ → Take) → Skill
-skill_of g t = record { takes = t; given = g }
+use Rattle.bank.proofs.Calls.{skill_of}
 
 halted_sound : (s : Skill) → Sound s → Sound (halted s)
 halted_sound s h = cond_both (runs_now s) _ _ Sound (λ _. (λ n. h.0 (suc n), omega arith)) (λ _. h)
 
 shortened_most : (s : Skill) → Sound s → shortened 60000 s ≡ s
 shortened_most s h =
-    ap (skill_of s.given) (fun_ext (λ n. cond-false (ltb 60000 (s.takes n).runs) _ _ (le-ltb 60000 (s.takes n).runs (h.0 n).0)))
+    ap (λ t. skill_of t s.given) (fun_ext (λ n. cond-false (ltb 60000 (s.takes n).runs) _ _ (le-ltb 60000 (s.takes n).runs (h.0 n).0)))
 
 pub all_shortened_most : (l : List Skill) → ((k : ℕ) → Sound (get_or l k no_skill)) → map (shortened 60000) (map halted l) ≡ map halted l
 all_shortened_most [] h = refl

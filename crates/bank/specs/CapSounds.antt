@@ -1,26 +1,25 @@
--- What a cap means is sound, and its counters stay within the limit.
-use Rattle.std.specs.Prelude.{ℕ, zero, suc, ◌+◌, ◌-◌, ◌≤◌, List, [], ◌∷◌, length, replicate, Some, None, Option, nat_lt, slice_index, slice_index_or, slice_set}
-use Rattle.std.proofs.Common.{sym, subst, ⊎_elim, arith, rules}
+-- What a cap means is as wide as what is below, and sound.
+use Rattle.std.specs.Prelude.{◌≡◌, ℕ, zero, suc, ◌+◌, ◌-◌, ◌<◌, ◌≤◌, List, [], ◌∷◌, length, Some, None, Option, nat_lt, slice_index, slice_index_or, refl}
+use Rattle.std.proofs.Common.{sym, ap, subst, ⊎_elim, arith, rules}
 use Rattle.std.proofs.lemmas.List.{get_or_past}
 use Rattle.std.proofs.lemmas.Bool.{cases_lt, cond_both, ltb-false}
 use Rattle.bank.specs.declared.kinds.Ending.TheVariants.{Fail}
 use Rattle.bank.specs.Skills.{Skill, Take, SoundTake, Sound, no_skill}
 use Rattle.bank.specs.Ranges.{given_runs}
 use Rattle.bank.specs.Capping.{capped, capped_at, capped_take, capped_first, capped_skills}
-use Rattle.bank.specs.Caps.{caps_length, caps_at}
 use Rattle.bank.specs.Sounds.{no_skill_sound}
 
-pub held_set : (m : ℕ) (cs : List ℕ) (i c : ℕ) → ((k : ℕ) → slice_index cs k ≤ m) → c ≤ m → (k : ℕ) → slice_index (slice_set cs i c) k ≤ m
-held_set m [] i c h le k = h k
-held_set m (x ∷ cs) zero c h le zero = le
-held_set m (x ∷ cs) zero c h le (suc k) = h (suc k)
-held_set m (x ∷ cs) (suc i) c h le zero = h zero
-held_set m (x ∷ cs) (suc i) c h le (suc k) = held_set m cs i c (λ j. h (suc j)) le k
+pub caps_length : (m : ℕ) (cs : List ℕ) (l : List Skill) → length (capped_skills m cs l) ≡ length l
+caps_length m cs [] = refl
+caps_length m [] (s ∷ l) = ap suc (caps_length m [] l)
+caps_length m (c ∷ cs) (s ∷ l) = ap suc (caps_length m cs l)
 
-pub held_zero : (m n k : ℕ) → slice_index (replicate n 0) k ≤ m
-held_zero m zero k = omega arith
-held_zero m (suc n) zero = omega arith
-held_zero m (suc n) (suc k) = held_zero m n k
+pub caps_at : (m : ℕ) (cs : List ℕ) (l : List Skill) (k : ℕ) → k < length l → slice_index_or (capped_skills m cs l) k no_skill ≡ capped m (slice_index cs k) (slice_index_or l k no_skill)
+caps_at m cs [] k h = absurd (omega arith)
+caps_at m [] (s ∷ l) zero h = refl
+caps_at m [] (s ∷ l) (suc k) h = caps_at m [] l k (omega arith)
+caps_at m (c ∷ cs) (s ∷ l) zero h = refl
+caps_at m (c ∷ cs) (s ∷ l) (suc k) h = caps_at m cs l k (omega arith)
 
 module _ (m : ℕ) (few : m ≤ 60000) where
   fail_sound : (n : ℕ) → n ≤ 60000 → SoundTake (record { runs = n; ending = Fail })

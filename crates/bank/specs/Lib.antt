@@ -6,12 +6,7 @@ pub mod Capping
 pub mod Pairing
 pub mod Recording
 pub mod Laws
-pub mod Caps
-pub mod Calls
 pub mod CapSounds
 pub mod Sounds
 pub mod Pairs
-pub mod Rows
-pub mod Rolls
-pub mod Slots
 pub mod RecordSounds

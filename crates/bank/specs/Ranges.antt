@@ -1,5 +1,5 @@
 -- The ranges of runs, marks and runs given.
-use Rattle.std.specs.Prelude.{ℕ, Bool, ◌&&◌, ℤ, pos, negsuc, Some, None, Option, int_le, nat_le}
+use Rattle.std.specs.Prelude.{◌≡◌, ℕ, Bool, ◌&&◌, ℤ, pos, negsuc, Some, None, Option, int_le, nat_le}
 use Rattle.bank.specs.declared.kinds.Ending.{Ending}
 use Rattle.bank.specs.declared.kinds.Ending.TheVariants.{Fail, Pass}
 
@@ -7,6 +7,10 @@ use Rattle.bank.specs.declared.kinds.Ending.TheVariants.{Fail, Pass}
 abbrev pub mark_of : Ending → ℤ
 mark_of Fail = pos 0
 mark_of (Pass m) = m
+
+-- an ending that passes
+abbrev pub Passes : Ending → Type 0
+Passes e = e ≡ Pass (mark_of e)
 
 -- the runs given, 0 where the skill is idle
 abbrev pub given_runs : Option ℕ → ℕ

@@ -88,3 +88,7 @@ asked f l k = cond (nat_lt k (length l)) (f (slice_index_or l k no_skill)) (Err 
 -- the skills after a call on k that answered r: a refusal changes nothing
 abbrev pub leaves : {A : Type 0} → (Skill → Skill) → Result A BankFault → List Skill → ℕ → List Skill
 leaves f r l k = cond (is_ok r) (slice_set l k (f (slice_index_or l k no_skill))) l
+
+-- one skill after a call that answered r
+abbrev pub left_by : {A : Type 0} → (Skill → Skill) → Result A BankFault → Skill → Skill
+left_by f r s = cond (is_ok r) (f s) s

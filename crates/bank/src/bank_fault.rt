@@ -6,10 +6,10 @@ use fault::refusal::Refusal;
 
 #[derive(Clone, Copy, PartialEq, Eq, Debug)]
 pub enum BankFault {
-    OutOfRange,
-    Beyond,
-    Running,
-    Idle,
+    OutOfRange = 2,
+    Beyond = 17,
+    Running = 18,
+    Idle = 19,
 }
 
 impl Refusal for BankFault {
@@ -19,13 +19,9 @@ impl Refusal for BankFault {
 
     ghost lined = { line_of };
 
+    // Kept: its number is its discriminant, so the cast needs no second table.
     fn number(&self) -> u8 {
-        match self {
-            BankFault::OutOfRange => 2,
-            BankFault::Beyond => 17,
-            BankFault::Running => 18,
-            BankFault::Idle => 19,
-        }
+        *self as u8
     }
 
     fn layer(&self) -> Layer {

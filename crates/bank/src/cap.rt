@@ -1,7 +1,7 @@
 // A cap over any bank.
 ghost use Rattle.bank.specs.Capping.{capped_skills};
 ghost use Rattle.std.proofs.Common.{arith};
-ghost use Rattle.bank.specs.Caps.{caps_length};
+ghost use Rattle.bank.specs.CapSounds.{caps_length};
 ghost use Rattle.bank.specs.CapSounds.{caps_sound};
 
 use crate::bank_fault::BankFault;
@@ -26,24 +26,23 @@ impl<B: Bank> Bank for Cap<B> {
 
     fn start(&mut self, k: u8) -> Result<(), BankFault> {
         self.below.start(k)?;
-        self.counts[k as usize] = 0;
+        self.counts[usize::from(k)] = 0;
         Ok(())
     }
 
     fn poll(&mut self, k: u8) -> Result<Reply, BankFault> {
-        let reply = self.below.poll(k)?;
-        match reply {
-            Reply::Ended(e) => Ok(Reply::Ended(e)),
+        match self.below.poll(k)? {
             Reply::Run => {
-                let given = self.counts[k as usize];
-                if given < self.limit {
-                    self.counts[k as usize] = given + 1;
+                let given = &mut self.counts[usize::from(k)];
+                if *given < self.limit {
+                    *given += 1;
                     Ok(Reply::Run)
                 } else {
                     self.below.halt(k)?;
                     Ok(Reply::Ended(Ending::Fail))
                 }
             }
+            reply => Ok(reply),
         }
     }
 

@@ -1,6 +1,7 @@
 // How a take ends, and what a poll answers.
 
 // A take fails, or it passes with a mark.
+// Kept: an Option of a mark would not say that a take without one fails.
 #[derive(Clone, Copy, PartialEq, Eq, Debug)]
 pub enum Ending {
     Fail,
@@ -8,6 +9,7 @@ pub enum Ending {
 }
 
 // One more run, or the ending of the take.
+// Kept: as with Ending, an Option would leave out the word.
 #[derive(Clone, Copy, PartialEq, Eq, Debug)]
 pub enum Reply {
     Run,

@@ -1,38 +1,32 @@
 // What banks, pairs and caps promise, each as the contract of a small function.
 ghost use Rattle.std.specs.Prelude.{◌≡◌, ◌+◌, ◌<◌, length, MatchResult};
-ghost use Rattle.bank.specs.Capping.{capped_skills};
 ghost use Rattle.bank.specs.Laws.{ChangesNoTake, OneAfterOther, OnlyAt, Shortens};
-ghost use Rattle.bank.specs.Pairing.{paired};
 ghost use Rattle.bank.specs.Skills.{asked, leaves, start_reply, poll_reply, halt_reply, started, polled, struck};
 ghost use Rattle.bank.specs.declared.bank_fault.BankFault.TheVariants.{OutOfRange};
 
 use crate::bank_fault::BankFault;
 use crate::banks::Bank;
 use crate::kinds::Reply;
-use crate::making_cap::CapRefused;
-use crate::pair::PairRefused;
 use crate::parts::{Cap, Pair};
+use crate::refused::Refused;
 
 // A pair of two banks means the two meanings one after the other.
-pub fn pair_means_both<F: Bank, S: Bank>(
-    first: F,
-    second: S,
-) -> Result<Pair<F, S>, PairRefused<F, S>>
-    ensures { MatchResult result (λ p. OneAfterOther (paired (F.Bank.skills p.first) (S.Bank.skills p.second)) (F.Bank.skills first) (S.Bank.skills second)) (λ e. (64 < length (F.Bank.skills first) + length (S.Bank.skills second)) × (e.fault ≡ OutOfRange) × (e.first ≡ first) × (e.second ≡ second)) }
+pub fn pair_means_both<F: Bank, S: Bank>(first: F, second: S) -> Result<Pair<F, S>, Refused<(F, S)>>
+    ensures { MatchResult result (λ p. OneAfterOther (⟦<Pair<F, S> as Bank>⟧.skills p) (F.Bank.skills first) (S.Bank.skills second)) (λ e. (64 < length (F.Bank.skills first) + length (S.Bank.skills second)) × (e.fault ≡ OutOfRange) × (e.given.0 ≡ first) × (e.given.1 ≡ second)) }
 {
     Pair::new(first, second)
 }
 
 // A cap means the meaning below with each take shortened.
-pub fn cap_shortens<B: Bank>(below: B, limit: u16) -> Result<Cap<B>, CapRefused<B>>
-    ensures { MatchResult result (λ c. Shortens limit (capped_skills c.limit c.counts (B.Bank.skills c.below)) (B.Bank.skills below)) (λ e. (60000 < limit) × (e.fault ≡ OutOfRange) × (e.below ≡ below)) }
+pub fn cap_shortens<B: Bank>(below: B, limit: u16) -> Result<Cap<B>, Refused<B>>
+    ensures { MatchResult result (λ c. Shortens limit (⟦<Cap<B> as Bank>⟧.skills c) (B.Bank.skills below)) (λ e. (60000 < limit) × (e.fault ≡ OutOfRange) × (e.given ≡ below)) }
 {
     Cap::new(below, limit)
 }
 
 // A cap of 60,000 changes no take.
-pub fn widest_cap<B: Bank>(below: B) -> Result<Cap<B>, CapRefused<B>>
-    ensures { MatchResult result (λ c. ChangesNoTake (capped_skills c.limit c.counts (B.Bank.skills c.below)) (B.Bank.skills below)) (λ _. ⊥) }
+pub fn widest_cap<B: Bank>(below: B) -> Result<Cap<B>, Refused<B>>
+    ensures { MatchResult result (λ c. ChangesNoTake (⟦<Cap<B> as Bank>⟧.skills c) (B.Bank.skills below)) (λ _. ⊥) }
 {
     Cap::new(below, 60_000)
 }

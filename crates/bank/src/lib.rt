@@ -8,10 +8,12 @@ pub mod given_take;
 pub mod kinds;
 pub mod laws;
 pub mod making_cap;
-pub mod making_recorded;
 pub mod pair;
 pub mod parts;
 pub mod recorded;
+mod recorded_skill;
+pub mod refused;
+mod take;
 #[cfg(test)]
 mod tests;
 pub mod timed;

@@ -1,41 +1,16 @@
 // What the banks hold, each with its invariants.
-ghost use Rattle.std.specs.Prelude.{◌≡◌, ℕ, ◌≤◌, length, pos, negsuc, ◌≤ℤ◌, slice_index};
-ghost use Rattle.bank.specs.Ranges.{given_runs, mark_of};
+ghost use Rattle.std.specs.Prelude.{◌≡◌, ℕ, ◌+◌, ◌≤◌, length, pos, negsuc, ◌≤ℤ◌, slice_index};
+ghost use Rattle.std.specs.List.{All};
+ghost use Rattle.arrayvec.specs.ArrayVec.{array_vec_len};
+ghost use Rattle.bank.specs.Ranges.{Passes, given_runs, mark_of};
 
 use crate::banks::Bank;
 use crate::kinds::Ending;
+use arrayvec::ArrayVec;
 
-// A passing take: 0 to 60,000 runs, and a mark of -100 to 100.
+// A take: 0 to 60,000 runs, and a mark of -100 to 100 where it passes.
 #[derive(Clone, Copy, PartialEq, Eq, Debug)]
-pub struct Timing {
-    pub(crate) runs: u16,
-    pub(crate) mark: i8,
-    ghost few: { runs ≤ 60000 },
-    ghost low: { negsuc 99 ≤ℤ mark },
-    ghost high: { mark ≤ℤ pos 100 },
-}
-
-// One skill of a timed bank: its one take, and the runs given where it runs.
-#[derive(Clone, Copy)]
-pub struct TimedSkill {
-    pub(crate) timing: Timing,
-    pub(crate) given: Option<u16>,
-    ghost within: { given_runs given ≤ timing.runs },
-}
-
-// The skills of a timed bank: the first `len` of the table.
-#[derive(Drop)]
-pub struct Timed {
-    pub(crate) table: [TimedSkill; 64],
-    pub(crate) len: usize,
-    ghost fits: { len ≤ 64 },
-    ghost whole: { length table ≡ 64 },
-}
-
-// A take given for a skill: 0 to 60,000 runs, and a mark of -100 to 100 where it passes.
-#[derive(Clone, Copy, PartialEq, Eq, Debug)]
-pub struct GivenTake {
-    pub(crate) skill: u8,
+pub(crate) struct Take {
     pub(crate) runs: u16,
     pub(crate) ending: Ending,
     ghost few: { runs ≤ 60000 },
@@ -43,31 +18,56 @@ pub struct GivenTake {
     ghost high: { mark_of ending ≤ℤ pos 100 },
 }
 
-// One skill of a recorded bank: its first take, the runs given where it runs, and the row from
-// which its later takes are read.
-#[derive(Clone, Copy)]
-pub struct RecordedSkill {
-    pub(crate) first: GivenTake,
-    pub(crate) given: Option<u16>,
-    pub(crate) next: usize,
-    ghost within: { given_runs given ≤ first.runs },
+// A take that passes.
+#[derive(Clone, Copy, PartialEq, Eq, Debug)]
+pub struct Timing {
+    pub(crate) take: Take,
+    ghost passes: { Passes take.ending },
 }
 
-// The takes of a recorded bank, the first `len` rows, and its skills, the first `width` of the
-// table.
+// A take given for a skill.
+// Its default is what a vector of fixed room has where nothing was put.
+#[derive(Clone, Copy, PartialEq, Eq, Debug, Default)]
+pub struct GivenTake {
+    pub(crate) skill: u8,
+    pub(crate) take: Take,
+}
+
+// A skill's first take, and the runs given in it where the skill runs.
+#[derive(Clone, Copy)]
+pub(crate) struct FirstTake {
+    pub(crate) take: Take,
+    pub(crate) given: Option<u16>,
+    ghost within: { given_runs given ≤ take.runs },
+}
+
+// The skills of a timed bank: each repeats its first take, which passes.
+#[derive(Drop)]
+pub struct Timed {
+    pub(crate) table: ArrayVec<FirstTake, 64>,
+    ghost few: { array_vec_len table ≤ 64 },
+    ghost passing: { All (λ s. Passes s.take.ending) table.items },
+}
+
+// One skill of a recorded bank: its first take, and the row from which its later takes are read.
+#[derive(Clone, Copy, Default)]
+pub(crate) struct RecordedSkill {
+    pub(crate) skill: u8,
+    pub(crate) first: FirstTake,
+    pub(crate) next: usize,
+}
+
+// The takes of a recorded bank, in the order given, and its skills.
 #[derive(Drop)]
 pub struct Recorded {
-    pub(crate) rows: [GivenTake; 1024],
-    pub(crate) len: usize,
-    pub(crate) table: [RecordedSkill; 64],
-    pub(crate) width: u8,
-    ghost fits: { len ≤ 1024 },
-    ghost whole: { length rows ≡ 1024 },
-    ghost few: { width ≤ 64 },
-    ghost full: { length table ≡ 64 },
+    pub(crate) rows: ArrayVec<GivenTake, 1024>,
+    pub(crate) table: ArrayVec<RecordedSkill, 64>,
+    ghost short: { array_vec_len rows ≤ 1024 },
+    ghost few: { array_vec_len table ≤ 64 },
 }
 
 // A cap on the runs of each take of a bank below, with the runs given to each skill under it.
+// Kept: the counters are an array, one for each number that a skill can have.
 #[derive(Drop)]
 pub struct Cap<B: Bank> {
     pub(crate) below: B,
@@ -78,9 +78,10 @@ pub struct Cap<B: Bank> {
     ghost held: { (k : ℕ) → slice_index counts k ≤ limit },
 }
 
-// The skills of a second bank after those of a first.
+// The skills of a second bank after those of a first: 64 at most.
 #[derive(Drop)]
 pub struct Pair<F: Bank, S: Bank> {
     pub(crate) first: F,
     pub(crate) second: S,
+    ghost few: { length (F.Bank.skills first) + length (S.Bank.skills second) ≤ 64 },
 }

@@ -1,99 +1,73 @@
 // The recorded bank: the takes given for each skill, in order, then fails.
-ghost use Rattle.std.specs.Prelude.{◌≡◌, take, drop};
-ghost use Rattle.bank.specs.Recording.{given_skill, recorded_skill, recorded_skills, rows_of};
+ghost use Rattle.std.specs.Prelude.{◌≡◌, true, false, MatchResult};
+ghost use Rattle.bank.specs.Recording.{Holds, all_below, recordable, recorded_skill, recorded_skills, rows_of};
+ghost use Rattle.bank.specs.declared.bank_fault.BankFault.TheVariants.{OutOfRange};
 ghost use Rattle.std.proofs.Common.{arith};
-ghost use Rattle.bank.specs.Rolls.{recorded_width};
+ghost use Rattle.std.proofs.lemmas.List.{length-map};
 ghost use Rattle.bank.specs.RecordSounds.{recorded_sound};
 ghost use Rattle.bank.specs.Sounds.{map_sound};
 
 use crate::bank_fault::BankFault;
 use crate::banks::Bank;
-use crate::kinds::{Ending, Reply};
+use crate::kinds::Reply;
 use crate::parts::{GivenTake, Recorded, RecordedSkill};
+use arrayvec::ArrayVec;
 
-// The skill idle, with the takes given for it from this row on.
-pub(crate) fn idle_from(rows: &[GivenTake], skill: u8, from: usize) -> RecordedSkill
-    ensures { recorded_skill rows.now result ≡ given_skill (drop from rows.now) skill }
+// Whether every take is given for a skill below the width.
+fn within(width: u8, takes: &[GivenTake]) -> bool
+    ensures { result ≡ all_below width takes.now }
 {
-    for i in from..rows.len() {
-        let row = rows[i];
-        if row.skill == skill {
-            return RecordedSkill {
-                first: row,
-                given: None,
-                next: i + 1,
-            };
+    takes.iter().all(|row| row.skill < width)
+}
+
+impl Recorded {
+    // A bank of these takes, every skill idle, or a refusal of a number out of range.
+    pub fn new(width: u8, takes: &[GivenTake]) -> Result<Recorded, BankFault>
+        ensures { MatchResult result (λ b. (recordable width takes.now ≡ true) × Holds width takes.now (recorded_skills b)) (λ e. (e ≡ OutOfRange) × (recordable width takes.now ≡ false)) }
+    {
+        if width > 64 || !within(width, takes) {
+            return Err(BankFault::OutOfRange);
         }
-    }
-    RecordedSkill {
-        first: GivenTake {
-            skill,
-            runs: 0,
-            ending: Ending::Fail,
-        },
-        given: None,
-        next: rows.len(),
+        let rows = ArrayVec::try_from(takes).map_err(|_| BankFault::OutOfRange)?;
+        let mut table = ArrayVec::new();
+        for k in 0..width {
+            table.push(RecordedSkill::idle_from(takes, k, 0));
+        }
+        Ok(Recorded { rows, table })
     }
 }
 
 impl Bank for Recorded {
     ghost skills = { recorded_skills };
 
-    ghost few = { λ b. omega (arith, recorded_width b 0) };
+    ghost few = { λ b. omega (arith, length-map b.table.items (recorded_skill (rows_of b))) };
 
-    ghost sound = { λ b k. map_sound (recorded_skill (rows_of b)) (recorded_sound (rows_of b)) (take b.width b.table) k };
+    ghost sound = { λ b k. map_sound (recorded_skill (rows_of b)) (recorded_sound (rows_of b)) b.table.items k };
 
     fn width(&self) -> u8 {
-        self.width
+        // Kept: 64 at most, so the cast is proved; TryFrom would bring a refusal that never comes.
+        self.table.len() as u8
     }
 
     fn running(&self, k: u8) -> bool {
-        if k >= self.width {
-            return false;
-        }
-        self.table[k as usize].given.is_some()
+        self.table
+            .get(usize::from(k))
+            .is_some_and(|skill| skill.first.is_running())
     }
 
+    // Kept: three times the same look-up, since a function that lends a skill needs a contract longer than it.
     fn start(&mut self, k: u8) -> Result<(), BankFault> {
-        if k >= self.width {
-            return Err(BankFault::Beyond);
-        }
-        let s = self.table[k as usize];
-        if s.given.is_some() {
-            return Err(BankFault::Running);
-        }
-        self.table[k as usize].given = Some(0);
-        Ok(())
+        let skill = self.table.get_mut(usize::from(k)).ok_or(BankFault::Beyond)?;
+        skill.first.start()
     }
 
     fn poll(&mut self, k: u8) -> Result<Reply, BankFault> {
-        if k >= self.width {
-            return Err(BankFault::Beyond);
-        }
-        let at = k as usize;
-        let s = self.table[at];
-        let Some(g) = s.given else {
-            return Err(BankFault::Idle);
-        };
-        if g < s.first.runs {
-            self.table[at].given = Some(g + 1);
-            return Ok(Reply::Run);
-        }
-        let later = idle_from(&self.rows[..self.len], s.first.skill, s.next);
-        self.table[at] = later;
-        Ok(Reply::Ended(s.first.ending))
+        let skill = self.table.get_mut(usize::from(k)).ok_or(BankFault::Beyond)?;
+        skill.poll(&self.rows)
     }
 
     fn halt(&mut self, k: u8) -> Result<(), BankFault> {
-        if k >= self.width {
-            return Err(BankFault::Beyond);
-        }
-        let s = self.table[k as usize];
-        if s.given.is_none() {
-            return Err(BankFault::Idle);
-        }
-        let later = idle_from(&self.rows[..self.len], s.first.skill, s.next);
-        self.table[k as usize] = later;
-        Ok(())
+        let skill = self.table.get_mut(usize::from(k)).ok_or(BankFault::Beyond)?;
+        skill.halt(&self.rows)
     }
 }

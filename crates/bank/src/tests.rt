@@ -16,7 +16,7 @@ enum Call {
     Runs(u8),
 }
 
-// What a call answers.
+// What a call answers: one word each, so that a table of calls can be read.
 #[derive(Clone, Copy, PartialEq, Eq, Debug)]
 enum Said {
     Done,
@@ -54,8 +54,8 @@ fn say<B: Bank>(bank: &mut B, call: Call) -> Said {
 }
 
 fn play<B: Bank>(rt: &impl Abort, bank: &mut B, table: &[(Call, Said)]) {
-    for i in 0..table.len() {
-        assert_eq!(rt; say(bank, table[i].0), table[i].1);
+    for (call, said) in table {
+        assert_eq!(rt; say(bank, *call), *said);
     }
 }
 
@@ -77,17 +77,11 @@ fn recorded() -> Result<Recorded, BankFault> {
 }
 
 fn paired() -> Result<Pair<Recorded, Timed>, BankFault> {
-    match Pair::new(recorded()?, timed()?) {
-        Ok(pair) => Ok(pair),
-        Err(refused) => Err(refused.fault),
-    }
+    Pair::new(recorded()?, timed()?).map_err(|refused| refused.fault)
 }
 
 fn capped(limit: u16) -> Result<Cap<Timed>, BankFault> {
-    match Cap::new(timed()?, limit) {
-        Ok(cap) => Ok(cap),
-        Err(refused) => Err(refused.fault),
-    }
+    Cap::new(timed()?, limit).map_err(|refused| refused.fault)
 }
 
 #[test]
@@ -226,10 +220,7 @@ fn a_cap_cuts_longer_takes(rt: HostRuntime) -> Result<(), Fail> {
 fn a_cap_halts_what_runs_below_a_pair(rt: HostRuntime) -> Result<(), Fail> {
     let mut pair = paired()?;
     assert_eq!(rt; done(pair.start(0)), Said::Done);
-    let Ok(mut bank) = Cap::new(pair, 1) else {
-        assert!(rt; false);
-        return Ok(());
-    };
+    let mut bank = Cap::new(pair, 1).map_err(|refused| refused.fault)?;
     assert_eq!(rt; bank.width(), 4);
     play(
         &rt,
@@ -267,11 +258,8 @@ fn making_refuses_what_is_out_of_range(rt: HostRuntime) -> Result<(), Fail> {
     assert!(rt; Recorded::new(3, &[take]).is_err() && Recorded::new(65, &[]).is_err());
     assert!(rt; capped(60_000).is_ok() && capped(60_001).is_err());
     let wide = Pair::new(Timed::new(&[timing; 33])?, Timed::new(&[timing; 32])?);
-    let Err(refused) = wide else {
-        assert!(rt; false);
-        return Ok(());
-    };
-    assert_eq!(rt; refused.first.width(), 33);
+    let refused = wide.err().ok_or("a pair of 65 skills is made")?;
+    assert_eq!(rt; refused.given.0.width(), 33);
     assert_eq!(rt; refused.fault, BankFault::OutOfRange);
     assert_eq!(rt; refused.fault.number(), 2);
     assert_eq!(rt; refused.fault.layer(), Layer::Bank);

@@ -1,9 +1,2 @@
-pub mod Full
-pub mod Growing
-pub mod Meaning
-pub mod Only
+pub mod Laid
 pub mod Paired
-pub mod Placing
-pub mod Present
-pub mod Table
-pub mod Writing

@@ -1,74 +1,71 @@
 -- A table of pairs whose used ones are as many as the keys that hold an entry.
-use Rattle.std.proofs.Common.{◌≡◌, ℕ, ◌+◌, ◌<◌, ◌≤◌, List, length, get_or, take, set, Some, None, Ok, Err, Option, sym, ap, ◌∙◌, arith}
-use Rattle.std.proofs.lemmas.List.{get_or_past, get_or-take, length-take-le, take_more_set}
-use Rattle.board.specs.declared.board_fault.BoardFault.TheVariants.{Beyond}
-use Rattle.board.specs.Laying.{laid, place, present}
-use Rattle.board.specs.Meaning.{at, answer, written}
-use Rattle.board.specs.LayingLemmas.{length_laid, laid_found, laid_missing, laid_again, laid_first}
-use Rattle.board.proofs.Meaning.{answer_below, answer_beyond, written_below, written_beyond}
-use Rattle.board.proofs.Present.{present_few, present_room, present_more, present_same}
-use Rattle.board.proofs.Table.{take_set}
+use Rattle.std.proofs.Common.{◌≡◌, ◌==◌, ℕ, ◌+◌, ◌<◌, ◌≤◌, cond, List, length, get_or, take, set, Some, None, Option, sym, ap, ◌∙◌, arith}
+use Rattle.std.specs.List.{position}
+use Rattle.std.specs.Option.{is_some}
+use Rattle.std.proofs.Math.Seq.{take-set-lt}
+use Rattle.std.proofs.lemmas.List.{length-take-le, take_more_set, length-set}
+use Rattle.std.proofs.lemmas.List.Sums.{sum_by-set, count_by-le-length}
+use Rattle.board.specs.declared.pair.Pair.{Pair}
+use Rattle.board.specs.Laying.{laid, present}
+use Rattle.board.specs.LayingLemmas.{length_laid}
+use Rattle.board.specs.Meaning.{written}
+use Rattle.board.proofs.Laid.{placed, laid_found, laid_missing, laid_again, laid_first}
 
-module _ {P E : Type 0} (key : P → ℕ) (held : P → E) (size used : ℕ) (table : List P) (few : size ≤ 32) (whole : length table ≡ 32) (once : used ≡ present (laid key held size (take used table))) where
-  abbrev pairs : List P
+-- a first write of a key adds one, a later one none
+present-set : {E : Type 0} (l : List (Option E)) (k : ℕ) (e : E) → k < length l → present (set l k (Some e)) + cond (is_some (get_or l k None)) 1 0 ≡ present l + 1
+present-set l k e below = sum_by-set (λ o. cond (is_some o) 1 0) l k (Some e) None below
+
+module _ {E : Type 0} (size used : ℕ) (table : List (Pair E)) (few : size ≤ 32) (whole : length table ≡ 32) (once : used ≡ present (laid size (take used table))) where
+  abbrev pairs : List (Pair E)
   pairs = take used table
 
   abbrev meaning : List (Option E)
-  meaning = laid key held size pairs
-
-  pub used_few : used ≤ size
-  used_few = omega (arith, present_few meaning, length_laid key held size pairs)
+  meaning = laid size pairs
 
   pub used_length : length pairs ≡ used
-  used_length = length-take-le used table (omega (arith, used_few))
+  used_length =
+      length-take-le used table (omega (arith, count_by-le-length is_some meaning, length_laid size pairs))
 
-  pub pair_held : (k : ℕ) (d : P) (i : ℕ) → k < size → i ≡ place key k pairs → i < used → Some (held (get_or table i d)) ≡ at meaning k
-  pair_held k d i below e h =
-      ap (λ p. Some (held p)) (sym (get_or-take used table i d h))
-      ∙ ap (λ j. Some (held (get_or pairs j d))) e
-      ∙ sym (laid_found key held size k d pairs below (omega (arith, used_length)))
+  module _ (q : Pair E) (below : q.key < size) where
+    written_q : set meaning q.key (Some q.held) ≡ written meaning q.key q.held
+    written_q = grind (arith, length_laid size pairs)
 
-  pub pair_none : (k : ℕ) → place key k pairs ≡ used → None ≡ at meaning k
-  pair_none k e = sym (laid_missing key held size k pairs (e ∙ sym used_length))
+    -- a later write of the key
+    module _ (i : ℕ) (place : Some i ≡ position (λ p. p.key == q.key) pairs) (next : List (Pair E)) (is : next ≡ set table i q) where
+      pub again_meaning : laid size (take used next) ≡ written meaning q.key q.held
+      again_meaning =
+          let here = placed (λ p. p.key == q.key) pairs i place in
+          ap (λ t. laid size (take used t)) is
+          ∙ ap (laid size) (take-set-lt used table i q (omega (arith, used_length)))
+          ∙ laid_again size q i pairs place
+          ∙ written_q
 
-  pub pair_past : (k : ℕ) → size ≤ k → None ≡ at meaning k
-  pair_past k past = sym (get_or_past meaning k None (omega (arith, length_laid key held size pairs)))
+      pub again_once : used ≡ present (laid size (take used next))
+      again_once =
+          let found = laid_found size q.key i pairs place q below in
+          let same = present-set meaning q.key q.held (omega (arith, length_laid size pairs)) in
+          grind (arith, again_meaning, written_q)
 
-  pub pair_refuses : (k : ℕ) → size ≤ k → Err Beyond ≡ answer meaning k
-  pair_refuses k past = sym (answer_beyond meaning k (omega (arith, length_laid key held size pairs)))
+    -- the first write of the key
+    module _ (place : None ≡ position (λ p. p.key == q.key) pairs) where
+      present_more : present (set meaning q.key (Some q.held)) ≡ used + 1
+      present_more =
+          let missing = laid_missing size q.key pairs place in
+          let more = present-set meaning q.key q.held (omega (arith, length_laid size pairs)) in
+          grind arith
 
-  pub pair_keeps : (k : ℕ) (e : E) → size ≤ k → meaning ≡ written meaning k e
-  pair_keeps k e past = sym (written_beyond meaning k e (omega (arith, length_laid key held size pairs)))
+      pub first_room : used < size
+      first_room =
+          let after = set meaning q.key (Some q.held) in
+          omega (arith, present_more, count_by-le-length is_some after, length-set meaning q.key (Some q.held), length_laid size pairs)
 
-  pub pair_answers : (k : ℕ) → k < size → Ok tt ≡ answer meaning k
-  pair_answers k below = sym (answer_below meaning k (omega (arith, length_laid key held size pairs)))
+      module _ (i : ℕ) (end : i ≡ used) (next : List (Pair E)) (is : next ≡ set table i q) where
+        pub first_meaning : laid size (take (used + 1) next) ≡ written meaning q.key q.held
+        first_meaning =
+            ap (λ t. laid size (take (used + 1) t)) (is ∙ ap (λ j. set table j q) end)
+            ∙ ap (laid size) (take_more_set table used q (omega (arith, first_room)))
+            ∙ laid_first size q pairs place
+            ∙ written_q
 
-  module _ (q : P) (below : key q < size) where
-    pub again_meaning : (i : ℕ) → i ≡ place key (key q) pairs → i < used → laid key held size (take used (set table i q)) ≡ set meaning (key q) (Some (held q))
-    again_meaning i e h =
-        ap (laid key held size) (take_set used table i q ∙ ap (λ j. set pairs j q) e)
-        ∙ laid_again key held size q pairs (omega (arith, used_length))
-
-    pub again_once : (i : ℕ) → i ≡ place key (key q) pairs → i < used → used ≡ present (laid key held size (take used (set table i q)))
-    again_once i e h =
-        once
-        ∙ sym (present_same meaning (key q) (held q) (held (get_or table i q)) (sym (pair_held (key q) q i below e h)))
-        ∙ ap present (sym (again_meaning i e h))
-
-    pub first_room : place key (key q) pairs ≡ used → used < size
-    first_room e =
-        omega (arith, length_laid key held size pairs, present_room meaning (key q) (omega (arith, length_laid key held size pairs)) (sym (pair_none (key q) e)))
-
-    pub first_meaning : place key (key q) pairs ≡ used → laid key held size (take (used + 1) (set table used q)) ≡ set meaning (key q) (Some (held q))
-    first_meaning e =
-        ap (laid key held size) (take_more_set table used q (omega (arith, first_room e)))
-        ∙ laid_first key held size q pairs (e ∙ sym used_length)
-
-    pub first_once : place key (key q) pairs ≡ used → used + 1 ≡ present (laid key held size (take (used + 1) (set table used q)))
-    first_once e =
-        ap (λ n. n + 1) once
-        ∙ sym (present_more meaning (key q) (held q) (omega (arith, length_laid key held size pairs)) (sym (pair_none (key q) e)))
-        ∙ ap present (sym (first_meaning e))
-
-    pub set_written : set meaning (key q) (Some (held q)) ≡ written meaning (key q) (held q)
-    set_written = sym (written_below meaning (key q) (held q) (omega (arith, length_laid key held size pairs)))
+        pub first_once : used + 1 ≡ present (laid size (take (used + 1) next))
+        first_once = sym (ap present (first_meaning ∙ sym written_q) ∙ present_more)

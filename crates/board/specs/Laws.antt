@@ -1,19 +1,28 @@
 -- What boards promise of writes and of marks.
-use Rattle.std.specs.Prelude.{◌≡◌, ℕ, ◌+◌, ◌≤◌, true, List, length, ◌+ℤ◌, Some, Option, Result, MatchResult, ◌≢◌}
+use Rattle.std.specs.Prelude.{◌≡◌, ℕ, ◌+◌, ◌<◌, ◌≤◌, true, List, length, replicate, ◌+ℤ◌, Some, None, Option, Result, MatchResult, ◌≢◌}
 use Rattle.entry.specs.declared.parts.Ability.{Ability}
-use Rattle.entry.specs.declared.parts.Count.{Count}
-use Rattle.entry.specs.declared.parts.Mark.{Mark}
+use Rattle.entry.specs.Kinds.{Count}
+use Rattle.entry.specs.Kinds.{Mark}
 use Rattle.entry.specs.declared.parts.Weighed.{Weighed}
 use Rattle.entry.specs.Abilities.{gain}
 use Rattle.entry.specs.Ranges.{is_count}
 use Rattle.board.specs.declared.board_fault.BoardFault.{BoardFault}
-use Rattle.board.specs.declared.board_fault.BoardFault.TheVariants.{Beyond}
+use Rattle.board.specs.declared.board_fault.BoardFault.TheVariants.{OutOfRange, Beyond}
 use Rattle.board.specs.Meaning.{at}
+use Rattle.board.specs.Writes.{all_written}
 
 -- two boards that began equal (one, two) and were given the same writes: they refused the same
 -- number (r, s) and read the same at every key (one', two')
 abbrev pub Alike : {E : Type 0} (one two one' two' : List (Option E)) (r s : ℕ) → Type 0
 Alike one two one' two' r s = one ≡ two → (r ≡ s) × ((k : ℕ) → at one' k ≡ at two' k)
+
+-- cells and pairs of a size, given the same writes, read the same at a key, which is what the writes
+-- leave there; a size above 32 is refused
+abbrev pub ReadAlike : {E : Type 0} (size : ℕ) (writes : List (ℕ × E)) (k : ℕ) → Result (Option E × Option E) BoardFault → Type 0
+ReadAlike size writes k r =
+    MatchResult r
+    (λ read. (read.0 ≡ read.1) × (read.0 ≡ at (all_written (replicate size None) writes) k))
+    (λ fault. (fault ≡ OutOfRange) × (32 < size))
 
 -- every key but k reads as before, and the size is as before
 abbrev pub OnlyAt : {E : Type 0} (k : ℕ) (before after : List (Option E)) → Type 0
@@ -24,6 +33,11 @@ OnlyAt k before after =
 abbrev pub Sets : {E : Type 0} (k : ℕ) (e : E) (before after : List (Option E)) → Result Unit BoardFault → Type 0
 Sets k e before after r =
     MatchResult r (λ _. at after k ≡ Some e) (λ fault. (fault ≡ Beyond) × (after ≡ before))
+
+-- a share entered on an entry that is not full for it makes of the entry what it takes
+abbrev pub Grows : {E S : Type 0} (taking : E → S → Option E) (k : ℕ) (s : S) (before after : List (Option E)) → Type 0
+Grows {E} taking k s before after =
+    (e d : E) → at before k ≡ Some e → taking e s ≡ Some d → at after k ≡ Some d
 
 -- a mark entered on a count that is not full adds exactly it
 abbrev pub CountGrows : (k : ℕ) (m : Mark) (before after : List (Option Count)) → Type 0

@@ -1,10 +1,7 @@
-pub mod Cells
 pub mod Entering
 pub mod Faults
-pub mod Kinds
 pub mod Laws
 pub mod Laying
 pub mod Meaning
-pub mod Pairs
 pub mod Writes
 pub mod LayingLemmas

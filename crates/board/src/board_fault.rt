@@ -6,8 +6,8 @@ use fault::refusal::Refusal;
 
 #[derive(Clone, Copy, PartialEq, Eq, Debug)]
 pub enum BoardFault {
-    OutOfRange,
-    Beyond,
+    OutOfRange = 2,
+    Beyond = 20,
 }
 
 impl Refusal for BoardFault {
@@ -17,11 +17,9 @@ impl Refusal for BoardFault {
 
     ghost lined = { line_of };
 
+    // Kept: its number is its discriminant, so the cast needs no second table.
     fn number(&self) -> u8 {
-        match self {
-            BoardFault::OutOfRange => 2,
-            BoardFault::Beyond => 20,
-        }
+        *self as u8
     }
 
     fn layer(&self) -> Layer {

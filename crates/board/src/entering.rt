@@ -37,6 +37,7 @@ pub fn enter<E: Entry, B: Board<E>>(
 }
 
 // Whether a key's entry meets a threshold: an absent one does not.
+// Kept: a form that the project wants; a condition takes the read apart by `let else`.
 pub fn meets<E: Entry, B: Board<E>>(board: &B, key: u8, threshold: E::Threshold) -> bool
     ensures { result ≡ held_to E.Entry.meeting (at (B.Board.entries board.now) key) threshold }
 {

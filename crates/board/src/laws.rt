@@ -1,17 +1,17 @@
 // What the rules of boards promise, each as the contract of a small function.
-ghost use Rattle.std.specs.Prelude.{◌≡◌, ◌<◌, replicate, None, MatchResult};
+ghost use Rattle.std.specs.Prelude.{◌≡◌};
 ghost use Rattle.entry.specs.Abilities.{ability_makes, ability_takes};
 ghost use Rattle.entry.specs.Counts.{count_makes, count_takes};
 ghost use Rattle.board.specs.Entering.{entering, entered};
-ghost use Rattle.board.specs.Laws.{Alike, OnlyAt, Sets, CountGrows, AbilityGrows};
-ghost use Rattle.board.specs.Meaning.{at, answer, written};
+ghost use Rattle.board.specs.Laws.{Alike, ReadAlike, OnlyAt, Sets, Grows, CountGrows, AbilityGrows};
+ghost use Rattle.board.specs.Meaning.{answer, written};
 ghost use Rattle.board.specs.Writes.{all_written, refusals};
-ghost use Rattle.board.specs.declared.board_fault.BoardFault.TheVariants.{OutOfRange};
 
 use crate::board_fault::BoardFault;
 use crate::boards::Board;
 use crate::entering::{Entered, enter};
-use crate::parts::{AbilityCells, AbilityPairs, CountCells, CountPairs};
+use crate::parts::{Cells, Pairs};
+use crate::table::Tabled;
 use crate::writes::write_all;
 use entry::kind::Entry;
 use entry::parts::{Ability, Count, Mark, Weighed};
@@ -40,32 +40,54 @@ pub fn same_writes<E: Entry, B: Board<E>, C: Board<E>>(
     (write_all(one, writes), write_all(two, writes))
 }
 
-// Cells and pairs of counts, given the same writes, read the same.
+// Cells and pairs of a kind of entry, given the same writes, read the same.
+pub fn entries_alike<E: Tabled>(
+    size: u8,
+    writes: &[(u8, E)],
+    key: u8,
+) -> Result<(Option<E>, Option<E>), BoardFault>
+    ensures { ReadAlike size writes.now key result }
+{
+    let mut cells = Cells::new(size)?;
+    let mut pairs = Pairs::new(size)?;
+    same_writes(&mut cells, &mut pairs, writes);
+    Ok((cells.read(key), pairs.read(key)))
+}
+
+// The law of cells and pairs, of counts.
 pub fn counts_alike(
     size: u8,
     writes: &[(u8, Count)],
     key: u8,
 ) -> Result<(Option<Count>, Option<Count>), BoardFault>
-    ensures { MatchResult result (λ read. (read.0 ≡ read.1) × (read.0 ≡ at (all_written (replicate size None) writes.now) key)) (λ e. (e ≡ OutOfRange) × (32 < size)) }
+    ensures { ReadAlike size writes.now key result }
 {
-    let mut cells = CountCells::new(size)?;
-    let mut pairs = CountPairs::new(size)?;
-    same_writes(&mut cells, &mut pairs, writes);
-    Ok((cells.read(key), pairs.read(key)))
+    entries_alike::<Count>(size, writes, key)
 }
 
-// Cells and pairs of abilities, given the same writes, read the same.
+// The law of cells and pairs, of abilities.
 pub fn abilities_alike(
     size: u8,
     writes: &[(u8, Ability)],
     key: u8,
 ) -> Result<(Option<Ability>, Option<Ability>), BoardFault>
-    ensures { MatchResult result (λ read. (read.0 ≡ read.1) × (read.0 ≡ at (all_written (replicate size None) writes.now) key)) (λ e. (e ≡ OutOfRange) × (32 < size)) }
+    ensures { ReadAlike size writes.now key result }
 {
-    let mut cells = AbilityCells::new(size)?;
-    let mut pairs = AbilityPairs::new(size)?;
-    same_writes(&mut cells, &mut pairs, writes);
-    Ok((cells.read(key), pairs.read(key)))
+    entries_alike::<Ability>(size, writes, key)
+}
+
+// A share entered on an entry that is not full makes of it what it takes, and touches no other key.
+pub fn enter_grows<E: Entry, B: Board<E>>(
+    board: &mut B,
+    key: u8,
+    share: E::Share,
+) -> Result<Entered, BoardFault>
+    ensures answer { result ≡ entering E.Entry.taking (B.Board.entries board.old) key share }
+    ensures after { B.Board.entries board.new ≡ entered E.Entry.making E.Entry.taking (B.Board.entries board.old) key share }
+    ensures grows { Grows E.Entry.taking key share (B.Board.entries board.old) (B.Board.entries board.new) }
+    ensures only { OnlyAt key (B.Board.entries board.old) (B.Board.entries board.new) }
+{
+    enter(board, key, share)
 }
 
 // A mark entered on a count that is not full adds exactly it, and touches no other key.
@@ -79,7 +101,7 @@ pub fn count_grows<B: Board<Count>>(
     ensures grows { CountGrows key mark (B.Board.entries board.old) (B.Board.entries board.new) }
     ensures only { OnlyAt key (B.Board.entries board.old) (B.Board.entries board.new) }
 {
-    enter(board, key, mark)
+    enter_grows(board, key, mark)
 }
 
 // A weighed mark entered on an ability that is not full adds exactly it, and touches no other key.
@@ -93,5 +115,5 @@ pub fn ability_grows<B: Board<Ability>>(
     ensures grows { AbilityGrows key share (B.Board.entries board.old) (B.Board.entries board.new) }
     ensures only { OnlyAt key (B.Board.entries board.old) (B.Board.entries board.new) }
 {
-    enter(board, key, share)
+    enter_grows(board, key, share)
 }

@@ -1,14 +1,6 @@
-// A key with what it holds: a plain pair for each kind of entry.
-use entry::parts::{Ability, Count};
-
+// A key with the entry that it holds.
 #[derive(Clone, Copy)]
-pub struct CountPair {
+pub struct Pair<E> {
     pub(crate) key: u8,
-    pub(crate) held: Count,
-}
-
-#[derive(Clone, Copy)]
-pub struct AbilityPair {
-    pub(crate) key: u8,
-    pub(crate) held: Ability,
+    pub(crate) held: E,
 }

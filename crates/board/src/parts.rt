@@ -1,51 +1,38 @@
-// The boards' tables, each with its invariants.
+// The boards, each with its invariants.
+// Kept: what is used of a table lies beside it. The project wants a plain table for each kind of
+// entry and no call that allocates; a vector of fixed room lies in an array of a type parameter.
 ghost use Rattle.std.specs.Prelude.{◌≡◌, ◌≤◌, length, take};
-ghost use Rattle.board.specs.Kinds.{count_laid, ability_laid};
-ghost use Rattle.board.specs.Laying.{present};
+ghost use Rattle.board.specs.Laying.{laid, present};
 
-use crate::pair::{AbilityPair, CountPair};
+use crate::table::Tabled;
 use entry::parts::{Ability, Count};
 
-// Counts by key: the first `size` cells.
+// Entries by key: the first `size` cells.
 #[derive(Drop)]
-pub struct CountCells {
+pub struct Cells<E: Tabled> {
     pub(crate) size: u8,
-    pub(crate) cells: [Option<Count>; 32],
+    pub(crate) table: E::Cells,
     ghost few: { size ≤ 32 },
-    ghost whole: { length cells ≡ 32 },
+    ghost whole: { length (E.Cells.rows table) ≡ 32 },
 }
 
-// Abilities by key: the first `size` cells.
-#[derive(Drop)]
-pub struct AbilityCells {
-    pub(crate) size: u8,
-    pub(crate) cells: [Option<Ability>; 32],
-    ghost few: { size ≤ 32 },
-    ghost whole: { length cells ≡ 32 },
-}
-
-// Counts in order of first writing: the first `used` pairs of the table. There are as many as
+// Entries in order of first writing: the first `used` pairs of the table. There are as many as
 // keys that hold an entry, so there is room for every key.
 #[derive(Drop)]
-pub struct CountPairs {
+pub struct Pairs<E: Tabled> {
     pub(crate) size: u8,
     pub(crate) used: u8,
-    pub(crate) table: [CountPair; 32],
+    pub(crate) table: E::Pairs,
     ghost few: { size ≤ 32 },
-    ghost whole: { length table ≡ 32 },
+    ghost whole: { length (E.Pairs.rows table) ≡ 32 },
     ghost within: { used ≤ size },
-    ghost once: { used ≡ present (count_laid size (take used table)) },
+    ghost once: { used ≡ present (laid size (take used (E.Pairs.rows table))) },
 }
 
-// Abilities in order of first writing: the first `used` pairs of the table. There are as many as
-// keys that hold an entry, so there is room for every key.
-#[derive(Drop)]
-pub struct AbilityPairs {
-    pub(crate) size: u8,
-    pub(crate) used: u8,
-    pub(crate) table: [AbilityPair; 32],
-    ghost few: { size ≤ 32 },
-    ghost whole: { length table ≡ 32 },
-    ghost within: { used ≤ size },
-    ghost once: { used ≡ present (ability_laid size (take used table)) },
-}
+pub type CountCells = Cells<Count>;
+
+pub type AbilityCells = Cells<Ability>;
+
+pub type CountPairs = Pairs<Count>;
+
+pub type AbilityPairs = Pairs<Ability>;

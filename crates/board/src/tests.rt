@@ -1,7 +1,10 @@
+ghost use Rattle.std.specs.Prelude.{◌<◌};
+
 use crate::board_fault::BoardFault;
 use crate::boards::Board;
 use crate::entering::{Entered, enter, meets};
-use crate::parts::{AbilityCells, AbilityPairs, CountCells, CountPairs};
+use crate::parts::{AbilityPairs, Cells, CountCells, CountPairs, Pairs};
+use crate::table::Tabled;
 use entry::parts::{Ability, Count, CountThreshold, Mark};
 use fault::refusal::Refusal;
 use std::test::Fail;
@@ -23,54 +26,49 @@ impl Draws {
 }
 
 fn value(count: Option<Count>) -> Option<i32> {
-    match count {
-        Some(count) => Some(count.value()),
-        None => None,
-    }
+    count.map(|count| count.value())
 }
 
-fn weight(ability: Option<Ability>) -> Option<u32> {
-    match ability {
-        Some(ability) => Some(ability.weight()),
-        None => None,
+// Whether cells and pairs of this size answer and read the same over a hundred writes at keys
+// below `keys`.
+fn run_alike<E: Tabled + PartialEq, F: Fn(u32) -> Result<E, Fail>>(
+    size: u8,
+    keys: u8,
+    seed: u32,
+    entry: F,
+) -> Result<bool, Fail>
+    requires keys { 0 < keys }
+    requires entry { F.IsAlwaysCallable entry }
+{
+    let mut draws = Draws { state: seed };
+    let mut cells = Cells::new(size)?;
+    let mut pairs = Pairs::new(size)?;
+    for _ in 0..100 {
+        let key = u8::try_from(draws.draw() % u32::from(keys))?;
+        let entry = entry(draws.draw())?;
+        if cells.write(key, entry) != pairs.write(key, entry) {
+            return Ok(false);
+        }
+        if (0..keys).any(|k| cells.read(k) != pairs.read(k)) {
+            return Ok(false);
+        }
     }
+    Ok(true)
 }
 
 #[test]
 fn counts_in_cells_and_pairs_read_the_same(rt: HostRuntime) -> Result<(), Fail> {
-    let mut draws = Draws { state: 7 };
-    let mut cells = CountCells::new(29)?;
-    let mut pairs = CountPairs::new(29)?;
-    for _ in 0..100 {
-        let key = (draws.draw() % 32) as u8;
-        let count = Count::new((draws.draw() % 2000) as i32 - 1000)?;
-        assert_eq!(rt;
-            cells.write(key, count).is_ok(),
-            pairs.write(key, count).is_ok()
-        );
-        for k in 0..32 {
-            assert_eq!(rt; value(cells.read(k)), value(pairs.read(k)));
-        }
-    }
+    let alike = run_alike(29, 32, 7, |n| {
+        Ok(Count::new(i32::try_from(n % 2000)? - 1000)?)
+    })?;
+    assert!(rt; alike);
     Ok(())
 }
 
 #[test]
 fn abilities_in_cells_and_pairs_read_the_same(rt: HostRuntime) -> Result<(), Fail> {
-    let mut draws = Draws { state: 11 };
-    let mut cells = AbilityCells::new(32)?;
-    let mut pairs = AbilityPairs::new(32)?;
-    for _ in 0..100 {
-        let key = (draws.draw() % 34) as u8;
-        let ability = Ability::new(-5, 1 + draws.draw() % 1000)?;
-        assert_eq!(rt;
-            cells.write(key, ability).is_ok(),
-            pairs.write(key, ability).is_ok()
-        );
-        for k in 0..34 {
-            assert_eq!(rt; weight(cells.read(k)), weight(pairs.read(k)));
-        }
-    }
+    let alike = run_alike(32, 34, 11, |n| Ok(Ability::new(-5, 1 + n % 1000)?))?;
+    assert!(rt; alike);
     Ok(())
 }
 

@@ -10,9 +10,10 @@ pub fn write_all<E: Entry, B: Board<E>>(board: &mut B, writes: &[(u8, E)]) -> us
     ensures answer { result ≡ refusals (B.Board.entries board.old) writes.now }
     ensures after { B.Board.entries board.new ≡ all_written (B.Board.entries board.old) writes.now }
 {
+    // Kept: a loop, since nothing is known of a board that a closure writes to at each item.
     let mut refused = 0;
-    for write in writes {
-        if board.write(write.0, write.1).is_err() {
+    for (key, value) in writes {
+        if board.write(*key, *value).is_err() {
             refused += 1;
         }
     }

@@ -1,3 +1,2 @@
 pub mod Commands
-pub mod Words
 pub mod Verdicts

@@ -1,10 +1,8 @@
 ghost use Rattle.std.specs.Prelude.{◌≡◌};
 ghost use Rattle.booth.specs.Commands.{verb_named};
 
-use text::cut::same;
-
 // What the program is asked to do.
-#[derive(Clone, Copy)]
+#[derive(Clone, Copy, PartialEq, Eq, Debug)]
 pub enum Verb {
     Check,
     Demo,
@@ -15,13 +13,10 @@ pub enum Verb {
 pub fn verb_of(word: &[u8]) -> Option<Verb>
     ensures { result ≡ verb_named word.now }
 {
-    if same(word, b"check") {
-        Some(Verb::Check)
-    } else if same(word, b"demo") {
-        Some(Verb::Demo)
-    } else if same(word, b"help") {
-        Some(Verb::Help)
-    } else {
-        None
+    match word {
+        b"check" => Some(Verb::Check),
+        b"demo" => Some(Verb::Demo),
+        b"help" => Some(Verb::Help),
+        _ => None,
     }
 }

@@ -6,8 +6,8 @@ mod refusals;
 mod verdict;
 
 use crate::command::{Verb, verb_of};
-use crate::refusals::{refused_line, words};
-use crate::verdict::{Verdict, judge};
+use crate::refusals::refused_line;
+use crate::verdict::{Accepted, Unjudged, judge};
 use std::io::Write;
 use std::process::ExitCode;
 use std::{env, fs};
@@ -16,72 +16,67 @@ const USAGE: &str = "usage: booth check FILE    judge a mission text and print i
        booth demo [DIR]    check the placement mission of DIR (samples)
        booth help          print this";
 
-// How a command ended: what was asked was done, or something stood against it, which is printed.
-enum Ending {
-    Done,
-    Refused,
-}
-
-fn check(rt: &HostRuntime, text: &[u8]) -> anyhow::Result<Ending> {
+// Each command answers the program's status: success if what was asked was done, failure if something
+// stood against it, which is printed.
+fn check(rt: &HostRuntime, text: &[u8]) -> anyhow::Result<ExitCode> {
     let heap = rt.alloc();
-    match judge(heap, text)? {
-        Verdict::Accepted {
-            text,
-            nodes,
-            skills,
-        } => {
+    match judge(heap, text) {
+        Ok(
+            Accepted {
+                text,
+                nodes,
+                skills,
+            },
+        ) => {
             rt.stdout().write_all(text.as_slice())?;
             println!(rt; "accepted nodes={nodes} skills={skills}")?;
-            Ok(Ending::Done)
+            Ok(ExitCode::SUCCESS)
         }
-        Verdict::Refused(fault) => {
-            rt.println(refused_line(heap, &fault, words(fault))?)?;
-            Ok(Ending::Refused)
+        Err(Unjudged::Refused(fault)) => {
+            let words = fault.to_string(heap)?;
+            rt.println(refused_line(heap, &fault, words.as_str())?)?;
+            Ok(ExitCode::FAILURE)
         }
+        Err(Unjudged::OutOfMemory(error)) => Err(error.into()),
     }
 }
 
-fn check_file(rt: &HostRuntime, path: &str) -> anyhow::Result<Ending> {
+fn check_file(rt: &HostRuntime, path: &str) -> anyhow::Result<ExitCode> {
     match fs::read(rt, path) {
         Ok(text) => check(rt, text.as_slice()),
         Err(error) => {
             eprintln!(rt; "booth: cannot read {path}: {error}")?;
-            Ok(Ending::Refused)
+            Ok(ExitCode::FAILURE)
         }
     }
 }
 
-fn demo(rt: &HostRuntime, folder: &str) -> anyhow::Result<Ending> {
+fn demo(rt: &HostRuntime, folder: &str) -> anyhow::Result<ExitCode> {
     let path = format!(in rt.alloc(); "{folder}/placement.mission")?;
     check_file(rt, path.as_str())
 }
 
-fn run(rt: &HostRuntime) -> anyhow::Result<Ending> {
+fn run(rt: &HostRuntime) -> anyhow::Result<ExitCode> {
     let args: Vec<String> = env::args(rt)?.skip(1).collect(rt.alloc())?;
-    if args.len() == 2 {
-        match verb_of(args[0].as_bytes()) {
-            Some(Verb::Check) => return check_file(rt, args[1].as_str()),
-            Some(Verb::Demo) => return demo(rt, args[1].as_str()),
-            _ => {}
+    let (verb, operand) = match args.as_slice() {
+        [word] => (verb_of(word.as_bytes()), None),
+        [word, operand] => (verb_of(word.as_bytes()), Some(operand.as_str())),
+        _ => (None, None),
+    };
+    match (verb, operand) {
+        (Some(Verb::Check), Some(path)) => check_file(rt, path),
+        (Some(Verb::Demo), folder) => demo(rt, folder.unwrap_or("samples")),
+        (Some(Verb::Help), None) => {
+            rt.println(USAGE)?;
+            Ok(ExitCode::SUCCESS)
+        }
+        _ => {
+            rt.println(USAGE)?;
+            Ok(ExitCode::FAILURE)
         }
     }
-    if args.len() == 1 {
-        match verb_of(args[0].as_bytes()) {
-            Some(Verb::Demo) => return demo(rt, "samples"),
-            Some(Verb::Help) => {
-                rt.println(USAGE)?;
-                return Ok(Ending::Done);
-            }
-            _ => {}
-        }
-    }
-    rt.println(USAGE)?;
-    Ok(Ending::Refused)
 }
 
 fn main(rt: HostRuntime) -> anyhow::Result<ExitCode> {
-    match run(&rt)? {
-        Ending::Done => Ok(ExitCode::SUCCESS),
-        Ending::Refused => Ok(ExitCode::FAILURE),
-    }
+    run(&rt)
 }

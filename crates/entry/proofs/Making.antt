@@ -1,37 +1,44 @@
 -- Numbers in range make the entry with those numbers, and others make none.
-use Rattle.std.proofs.Common.{◌≡◌, ℕ, true, false, T, ℤ, Some, None, sym, refl, ap, ◌∙◌, arith}
+use Rattle.std.proofs.Common.{◌≡◌, ℕ, true, false, T, ℤ, Some, None, Result, Ok, Err, MatchResult, sym, refl, ap, ◌∙◌, arith}
 use Rattle.std.proofs.lemmas.Int.{ints}
+use Rattle.std.specs.Result.{result_ok}
+use Rattle.entry.specs.declared.entry_fault.EntryFault.{EntryFault}
+use Rattle.entry.specs.declared.entry_fault.EntryFault.TheVariants.{OutOfRange}
+use Rattle.entry.specs.Kinds.{Count, Mark, whole_in}
 use Rattle.entry.specs.declared.parts.Ability.{Ability}
-use Rattle.entry.specs.declared.parts.Count.{Count}
-use Rattle.entry.specs.declared.parts.Mark.{Mark}
 use Rattle.entry.specs.declared.parts.Weighed.{Weighed}
 use Rattle.entry.specs.Abilities.{ability_in, ability_of, ability_makes, gain}
-use Rattle.entry.specs.Counts.{count_in, count_of, count_makes}
-use Rattle.entry.specs.Ranges.{is_ability, is_count}
+use Rattle.entry.specs.Counts.{count_of, count_makes}
+use Rattle.entry.specs.Ranges.{within, is_ability, is_count}
 use Rattle.entry.proofs.Holding.{where_holds, where_fails, where_made}
-use Rattle.entry.proofs.Same.{same_ability, same_count}
+use Rattle.entry.proofs.Same.{same_ability, same_whole}
 
-count_in_is : (z : ℤ) (t : T (is_count z)) → (count_in z t).value ≡ z
-unfolding count_in
-count_in_is z t = refl
+whole_in_is : (m : ℕ) (z : ℤ) (t : T (within m z)) → (whole_in m z t).value ≡ z
+unfolding whole_in
+whole_in_is m z t = refl
 
 pub count_there : (z : ℤ) (c : Count) → c.value ≡ z → count_of z ≡ Some c
 count_there z c e =
     let h : is_count z ≡ true = grind (arith, ints) in
-    where_holds (is_count z) (count_in z) c h (λ t. same_count (count_in z t) c (count_in_is z t ∙ sym e))
+    where_holds (is_count z) (whole_in 1000000 z) c h (λ t. same_whole (whole_in 1000000 z t) c (whole_in_is 1000000 z t ∙ sym e))
 
 pub count_out : (z : ℤ) → is_count z ≡ false → count_of z ≡ None
-count_out z h = where_fails (is_count z) (count_in z) h
+count_out z h = where_fails (is_count z) (whole_in 1000000 z) h
+
+-- what making a count answers, its refusal left out
+pub count_answered : (x z : ℤ) (r : Result Count EntryFault) → x ≡ z → MatchResult r (λ c. c.value ≡ x) (λ e. (e ≡ OutOfRange) × (is_count x ≡ false)) → result_ok r ≡ count_of z
+count_answered x z (Ok c) e h = sym (count_there z c (h ∙ e))
+count_answered x z (Err f) e h = sym (count_out z (ap is_count (sym e) ∙ h.1))
 
 -- what is made has the number
 pub count_value : (z : ℤ) (c : Count) → count_of z ≡ Some c → c.value ≡ z
 count_value z c e =
-    let m = where_made (is_count z) (count_in z) c e in
-    ap (λ (d : Count). d.value) (sym m.1) ∙ count_in_is z m.0
+    let m = where_made (is_count z) (whole_in 1000000 z) c e in
+    ap (λ (d : Count). d.value) (sym m.1) ∙ whole_in_is 1000000 z m.0
 
 pub count_first : (m : Mark) (c : Count) → c.value ≡ m.value → c ≡ count_makes m
 unfolding count_makes
-count_first m c e = same_count c _ e
+count_first m c e = same_whole c _ e
 
 ability_in_is : (m : ℤ) (w : ℕ) (t : T (is_ability m w)) → ((ability_in m w t).marks ≡ m) × ((ability_in m w t).weight ≡ w)
 unfolding ability_in
@@ -48,6 +55,11 @@ ability_there m w a e f =
 
 pub ability_out : (m : ℤ) (w : ℕ) → is_ability m w ≡ false → ability_of m w ≡ None
 ability_out m w h = where_fails (is_ability m w) (ability_in m w) h
+
+-- what making an ability answers, its refusal left out
+pub ability_answered : (x m : ℤ) (y w : ℕ) (r : Result Ability EntryFault) → x ≡ m → y ≡ w → MatchResult r (λ a. (a.marks ≡ x) × (a.weight ≡ y)) (λ e. (e ≡ OutOfRange) × (is_ability x y ≡ false)) → result_ok r ≡ ability_of m w
+ability_answered x m y w (Ok a) e f h = sym (ability_there m w a (h.0 ∙ e) (h.1 ∙ f))
+ability_answered x m y w (Err g) e f h = sym (ability_out m w (sym (λ i. is_ability (e i) (f i)) ∙ h.1))
 
 pub ability_values : (m : ℤ) (w : ℕ) (a : Ability) → ability_of m w ≡ Some a → (a.marks ≡ m) × (a.weight ≡ w)
 ability_values m w a e =

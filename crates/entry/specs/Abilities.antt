@@ -11,7 +11,7 @@ use Rattle.entry.specs.Ranges.{is_ability, is_ability_weight, is_ability_marks}
 
 -- marks over weight meets P over Q where marks × Q is at least P × weight
 abbrev pub ability_meets : Ability → AbilityThreshold → Bool
-ability_meets a t = int_le (t.least *ℤ pos a.weight) (a.marks *ℤ pos t.over)
+ability_meets a t = int_le (t.least.value *ℤ pos a.weight) (a.marks *ℤ pos t.over.value)
 
 -- the ability m over w, both in range
 unfoldable pub ability_in : (m : ℤ) (w : ℕ) → T (is_ability m w) → Ability

@@ -1,8 +1,7 @@
 -- What taking a mark leaves, number by number.
 use Rattle.std.specs.Prelude.{◌≡◌, ◌+◌, ◌<◌, false, ◌+ℤ◌, Option, MatchOption}
+use Rattle.entry.specs.Kinds.{Count, Mark}
 use Rattle.entry.specs.declared.parts.Ability.{Ability}
-use Rattle.entry.specs.declared.parts.Count.{Count}
-use Rattle.entry.specs.declared.parts.Mark.{Mark}
 use Rattle.entry.specs.declared.parts.Weighed.{Weighed}
 use Rattle.entry.specs.Abilities.{gain}
 use Rattle.entry.specs.Ranges.{is_count}

@@ -12,11 +12,7 @@ impl Ability {
     pub fn new(marks: i32, weight: u32) -> Result<Ability, EntryFault>
         ensures { MatchResult result (λ a. (a.marks ≡ marks) × (a.weight ≡ weight)) (λ e. (e ≡ OutOfRange) × (is_ability marks weight ≡ false)) }
     {
-        if weight < 1 || weight > 1_000_000 {
-            return Err(EntryFault::OutOfRange);
-        }
-        let most = (100 * weight) as i32;
-        if -most <= marks && marks <= most {
+        if (1..=1_000_000).contains(&weight) && marks.unsigned_abs() <= 100 * weight {
             Ok(Ability { marks, weight })
         } else {
             Err(EntryFault::OutOfRange)
@@ -37,10 +33,10 @@ impl Ability {
 }
 
 // The product of two numbers: it fits, since it is taken in a wider type.
-fn product(a: i32, b: i32) -> i64
-    ensures { result ≡ a *ℤ b }
+fn product(a: i32, b: u32) -> i64
+    ensures { result ≡ a *ℤ pos b }
 {
-    a as i64 * b as i64
+    i64::from(a) * i64::from(b)
 }
 
 // What a weighed mark adds to the marks.
@@ -49,7 +45,7 @@ fn gain(share: Weighed) -> i32
     ensures low { neg_ℤ (pos (100 * share.weight.value)) ≤ℤ result }
     ensures high { result ≤ℤ pos (100 * share.weight.value) }
 {
-    share.mark.value as i32 * share.weight.value as i32
+    share.mark.value * i32::from(share.weight.value)
 }
 
 impl Entry for Ability {
@@ -64,24 +60,19 @@ impl Entry for Ability {
     ghost making = { ability_makes };
 
     fn meets(self, threshold: AbilityThreshold) -> bool {
-        product(self.marks, threshold.over as i32) >= product(threshold.least, self.weight as i32)
+        let over = u32::from(threshold.over.value);
+        product(self.marks, over) >= product(threshold.least.value, self.weight)
     }
 
     fn take(self, share: Weighed) -> Option<Ability> {
-        let weight = self.weight + share.weight.value as u32;
-        if weight > 1_000_000 {
-            return None;
-        }
-        Some(Ability {
-            marks: self.marks + gain(share),
-            weight,
-        })
+        let weight = self.weight + u32::from(share.weight.value);
+        Ability::new(self.marks + gain(share), weight).ok()
     }
 
     fn first(share: Weighed) -> Ability {
         Ability {
             marks: gain(share),
-            weight: share.weight.value as u32,
+            weight: u32::from(share.weight.value),
         }
     }
 }

@@ -4,12 +4,12 @@
 pub mod ability;
 pub mod ability_threshold;
 pub mod count;
+pub mod count_threshold;
 pub mod entry_fault;
 pub mod kind;
 pub mod laws;
-pub mod mark;
 pub mod parts;
 #[cfg(test)]
 mod tests;
-pub mod threshold;
 pub mod weight;
+pub mod whole;

@@ -5,11 +5,9 @@ use fault::refusal::Refusal;
 use std::test::Fail;
 
 // What a count holds once it has taken a mark, or `None` where it is full.
-fn taken(count: i32, mark: i8) -> Result<Option<i32>, EntryFault> {
-    let Some(next) = Count::new(count)?.take(Mark::new(mark)?) else {
-        return Ok(None);
-    };
-    Ok(Some(next.value()))
+fn taken(count: i32, mark: i32) -> Result<Option<i32>, EntryFault> {
+    let next = Count::new(count)?.take(Mark::new(mark)?);
+    Ok(next.map(|count| count.value()))
 }
 
 #[test]
@@ -29,7 +27,7 @@ fn counts_fill_downwards(rt: HostRuntime) -> Result<(), Fail> {
     Ok(())
 }
 
-fn weighed(mark: i8, weight: u8) -> Result<Weighed, EntryFault> {
+fn weighed(mark: i32, weight: u8) -> Result<Weighed, EntryFault> {
     Ok(Weighed {
         mark: Mark::new(mark)?,
         weight: Weight::new(weight)?,
@@ -38,10 +36,8 @@ fn weighed(mark: i8, weight: u8) -> Result<Weighed, EntryFault> {
 
 // What an ability holds once it has taken a weighed mark, or `None` where it is full.
 fn grown(marks: i32, weight: u32, share: Weighed) -> Result<Option<(i32, u32)>, EntryFault> {
-    let Some(next) = Ability::new(marks, weight)?.take(share) else {
-        return Ok(None);
-    };
-    Ok(Some((next.marks(), next.weight())))
+    let next = Ability::new(marks, weight)?.take(share);
+    Ok(next.map(|ability| (ability.marks(), ability.weight())))
 }
 
 #[test]

@@ -10,7 +10,7 @@ impl Weight {
     pub fn new(value: u8) -> Result<Weight, EntryFault>
         ensures { MatchResult result (λ w. w.value ≡ value) (λ e. (e ≡ OutOfRange) × (weighs value ≡ false)) }
     {
-        if 1 <= value && value <= 100 {
+        if (1..=100).contains(&value) {
             Ok(Weight { value })
         } else {
             Err(EntryFault::OutOfRange)

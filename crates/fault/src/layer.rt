@@ -1,5 +1,7 @@
-ghost use Rattle.std.specs.Prelude.{◌≡◌};
+ghost use Rattle.std.specs.Prelude.{◌≡◌, Some};
 ghost use Rattle.fault.specs.Layers.{word as word_of};
+
+use std::fmt;
 
 // The layer that a refusal comes from.
 #[derive(Clone, Copy, PartialEq, Eq, Debug)]
@@ -23,5 +25,14 @@ impl Layer {
             Layer::Bank => "bank",
             Layer::Board => "board",
         }
+    }
+}
+
+// A layer is printed as its word.
+impl fmt::Display for Layer {
+    ghost output = { λ l. Some (word_of l) };
+
+    fn fmt<W: fmt::Write>(&self, f: &mut fmt::Formatter<W>) -> fmt::Result {
+        f.write_str(self.word())
     }
 }

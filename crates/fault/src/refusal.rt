@@ -5,6 +5,7 @@ use crate::layer::Layer;
 
 // A refusal of a call: its number, the layer that it comes from, and the line of the text that it
 // speaks of (from 1; 0 where no text is read).
+// Kept without default bodies: a body of the trait's own would have to hold for every refusal.
 pub trait Refusal {
     ghost numbered: { Self → ℕ };
 

@@ -1,6 +1,6 @@
 -- A text is accepted exactly where no fault holds; else the reading finds the first.
 use Rattle.std.proofs.Common.{◌≡◌, ℕ, ◌+◌, ◌<◌, ◌≤◌, true, List, length, pos, Err, Result, sym, refl, ◌∙◌, subst, inl, inr, ⊎_elim, arith, MatchResult}
-use lib.Signed.{le_z}
+use Rattle.std.specs.Prelude.{int_le}
 use Rattle.std.proofs.lemmas.Int.{ints}
 use Rattle.std.proofs.lemmas.Bool.{and_from}
 use Rattle.text.specs.Numeral.{within}
@@ -22,8 +22,8 @@ use Rattle.mission.proofs.TextFaults.{no_flaw}
 
 in_span : (lo hi n : ℕ) → lo ≤ n → n ≤ hi → within (pos lo) (pos hi) (pos n) ≡ true
 in_span lo hi n l h =
-    let a : le_z (pos lo) (pos n) ≡ true = grind (arith, ints) in
-    let b : le_z (pos n) (pos hi) ≡ true = grind (arith, ints) in
+    let a : int_le (pos lo) (pos n) ≡ true = grind (arith, ints) in
+    let b : int_le (pos n) (pos hi) ≡ true = grind (arith, ints) in
     and_from _ _ a b
 
 pub outline_ranged : (o : Outline) → InRange (shape o)

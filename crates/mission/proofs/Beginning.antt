@@ -16,7 +16,7 @@ first_shape t = record { counts = 1; abilities = 0; nodes = Count 0 t ∷ [] }
 
 placed : (t : CountThreshold) → Unplaced (Count 0 t ∷ []) 0 → ⊥
 unfolding places
-placed t u = ⊎_elim (λ e. let z : ◌≡◌ {A = ℕ} 0 1 = cc in omega arith) (λ e. e.1 refl) u
+placed t u = ⊎_elim (λ e. cc) (λ e. e.1 refl) u
 
 shallow : (t : CountThreshold) → Deep (Count 0 t ∷ []) 0 → ⊥
 unfolding places

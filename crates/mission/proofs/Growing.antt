@@ -1,13 +1,13 @@
 -- Flattening a tree and reading it back are inverse, and the nodes of a lawful mission make one tree.
 use Rattle.std.proofs.Common.{◌≡◌, ℕ, zero, suc, ◌+◌, ◌-◌, ◌<◌, true, ◌&&◌, ◌⊎◌, List, [], ◌∷◌, ◌++◌, length, drop, replicate, pos, Some, None, Option, sym, refl, ap, ◌∙◌, subst, inl, inr, ⊎_elim, append_assoc, append-nil, arith}
-use lib.Signed.{le_z}
+use Rattle.std.specs.Prelude.{int_le}
 use Rattle.std.specs.Option.{option_map}
 use Rattle.std.proofs.lemmas.List.{drop_more, drop_all, length-append, length-replicate}
 use Rattle.std.proofs.lemmas.Int.{ints}
 use Rattle.std.proofs.lemmas.Bool.{and_parts}
 use Rattle.text.specs.Fields.{then}
 use Rattle.text.specs.Numeral.{within}
-use Rattle.text.proofs.Cuts.{never, some_same, then_some, mapped_some}
+use Rattle.text.proofs.Cuts.{some_same, then_some, mapped_some}
 use Rattle.mission.specs.declared.breach.Breach.TheVariants.{Place}
 use Rattle.mission.specs.declared.node.Node.{Node}
 use Rattle.mission.specs.declared.node.Node.TheVariants.{Group, Par, Not, Loop, Skill, Count, Ability}
@@ -78,7 +78,7 @@ tree_back t = ap (λ ns. then (grown ns) only) (sym (append-nil (flatten t))) �
 -- what is read flattens to it
 split_sound : (n : ℕ) (ts : Trees) (p : Trees × Trees) → split n ts ≡ Some p → (width p.0 ≡ n) × (flattens p.0 ++ flattens p.1 ≡ flattens ts)
 split_sound zero ts p e = let q = some_same (nil, ts) p e in (ap (λ (x : Trees × Trees). width x.0) (sym q), ap (λ (x : Trees × Trees). flattens x.0 ++ flattens x.1) (sym q))
-split_sound (suc n) nil p e = never e
+split_sound (suc n) nil p e = cc
 split_sound (suc n) (cons t ts) p e =
     let m = mapped_some (λ (q : Trees × Trees). (cons t q.0, q.1)) (split n ts) p e in
     let r = split_sound n ts m.0 m.1 in (
@@ -87,7 +87,7 @@ split_sound (suc n) (cons t ts) p e =
     )
 
 on_first_sound : (f : Tree → Tree) (n : Node) (ts us : Trees) → ((t : Tree) → flatten (f t) ≡ n ∷ flatten t) → on_first f ts ≡ Some us → flattens us ≡ n ∷ flattens ts
-on_first_sound f n nil us h e = never e
+on_first_sound f n nil us h e = cc
 on_first_sound f n (cons t ts) us h e = ap flattens (sym (some_same (cons (f t) ts) us e)) ∙ ap (λ xs. xs ++ flattens ts) (h t)
 
 plant_sound : (n : Node) (ts us : Trees) → plant n ts ≡ Some us → flattens us ≡ n ∷ flattens ts
@@ -112,9 +112,9 @@ grown_sound (n ∷ ns) ts e =
     plant_sound n s.0 ts s.2 ∙ ap (λ xs. n ∷ xs) (grown_sound ns s.0 s.1)
 
 only_sound : (ts : Trees) (t : Tree) → only ts ≡ Some t → ts ≡ cons t nil
-only_sound nil t e = never e
+only_sound nil t e = cc
 only_sound (cons u nil) t e = ap (λ x. cons x nil) (some_same u t e)
-only_sound (cons u (cons v vs)) t e = never e
+only_sound (cons u (cons v vs)) t e = cc
 
 pub tree_forth : (ns : List Node) (t : Tree) → tree_of ns ≡ Some t → flatten t ≡ ns
 tree_forth ns t e =
@@ -172,7 +172,7 @@ covers_cons (l ∷ ls) n ns h c = c
 
 covers_nil : (ls : List ℕ) → (((ls ≡ []) → ⊥) → ⊥) → Covers ls []
 covers_nil [] h = tt
-covers_nil (l ∷ ls) h = h (λ e. let z : ◌≡◌ {A = ℕ} 0 1 = cc in omega arith)
+covers_nil (l ∷ ls) h = h (λ e. cc)
 
 covers_from : (m : Shape) → Lawful m → (k i : ℕ) → i + k ≡ length m.nodes → 0 < i ⊎ (0 < k) → Covers (places m.nodes i) (drop i m.nodes)
 covers_from m l zero i e b =
@@ -203,7 +203,7 @@ ranged_append (x ∷ xs) ys h =
     (λ i. p.0 i && q.0 i, q.1)
 
 some_kids : (w : ℕ) → within (pos 1) (pos 32) (pos w) ≡ true → 0 < w
-some_kids w h = let a = (and_parts (le_z (pos 1) (pos w)) _ h).0 in grind (arith, ints)
+some_kids w h = let a = (and_parts (int_le (pos 1) (pos w)) _ h).0 in grind (arith, ints)
 
 mutual
   populated : (t : Tree) → all_ranged (flatten t) ≡ true → Populated t

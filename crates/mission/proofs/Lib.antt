@@ -4,10 +4,10 @@ pub mod Runs
 pub mod LineForms
 pub mod NumberLines
 pub mod NodeLines
+pub mod LineReadings
 pub mod OneText
 pub mod TextFaults
 pub mod Accepting
 pub mod Laying
 pub mod Growing
 pub mod Beginning
-pub mod SkillLeaves

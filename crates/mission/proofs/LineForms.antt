@@ -1,16 +1,14 @@
 -- One line a node: a line is read as w, as numbers are held, exactly when it is the line of w.
-use Rattle.std.proofs.Common.{◌≡◌, ℕ, Bool, true, false, ◌&&◌, List, [], ◌∷◌, ℤ, pos, negsuc, Some, None, Ok, Err, codes, Option, Result, sym, refl, ap, ◌∙◌, subst, ⊎_elim, arith, MatchResult}
+use Rattle.std.proofs.Common.{◌≡◌, ℕ, Bool, true, ◌&&◌, List, [], ◌∷◌, ℤ, pos, negsuc, Some, None, Ok, Err, codes, Option, Result, sym, refl, ap, ◌∙◌, subst, ⊎_elim}
 use Rattle.std.specs.Option.{option_map}
 use Rattle.std.specs.Str.{bytes_eq}
 use Rattle.std.proofs.lemmas.Slice.Eq.{bytes_eq-Decides}
-use Rattle.std.proofs.lemmas.Int.{ints}
 use Rattle.std.proofs.lemmas.Bool.{cond-true, cond-false, cases_Bool, and_parts}
 use Rattle.text.specs.Numeral.{kept, within, valued, above}
 use Rattle.text.specs.Fields.{Rest, onto, field, spaced, free, then, word, number, last, one_ended, pair_ended}
 use Rattle.text.proofs.Cuts.{never, some_same, then_some, mapped_some, word_onto, word_sound, number_onto, number_sound, number_or_onto_number, number_or_onto_word, number_or_sound, last_some, one_ended_onto, one_ended_sound, pair_ended_onto, pair_ended_sound}
 use Rattle.text.proofs.Ranges.{within_kept, same_kept}
 use Rattle.mission.specs.declared.flaw.Flaw.{Flaw}
-use Rattle.mission.specs.declared.flaw.Flaw.TheVariants.{Range}
 use Rattle.mission.specs.declared.node.GroupKind.TheVariants.{Seq, Fall, Mseq, Mfall}
 use Rattle.mission.specs.declared.node.LoopKind.TheVariants.{Retry, Repeat}
 use Rattle.mission.specs.declared.node.Node.{Node}
@@ -20,7 +18,7 @@ use Rattle.mission.specs.declared.raw.RawTarget.{RawTarget}
 use Rattle.mission.specs.declared.raw.RawTarget.TheVariants.{Nowhere as RNowhere, Count as RCountKey, Ability as RAbilityKey}
 use Rattle.mission.specs.declared.raw.RawNode.{RawNode}
 use Rattle.mission.specs.declared.raw.RawNode.TheVariants.{Group as RGroup, Par as RPar, Not as RNot, Loop as RLoop, Skill as RSkill, Count as RCount, Ability as RAbility}
-use Rattle.mission.specs.Lines.{kind_word, number_field, or_none, into_word, key_of, weight_of, kind_line, line, key_ranged, device_ranged, target_ranged, ranged, raw, JudgedLine}
+use Rattle.mission.specs.Lines.{kind_word, number_field, or_none, into_word, key_of, weight_of, kind_line, line, key_ranged, device_ranged, target_ranged, ranged, raw, RangeJudged, Bad, LineJudged}
 use Rattle.mission.specs.Parsing.{kinds, kind_among, kind, target_of, maybe, target, skill, ability, filled, parsed, kept_target, kept_raw}
 
 -- each kind is named by its word, and by no other
@@ -265,7 +263,7 @@ both : (a b c d : Bool) → a ≡ c → b ≡ d → (a && b) ≡ (c && d)
 both a b c d e f = λ i. e i && f i
 
 key_kept : (z : ℤ) → key_ranged (kept z) ≡ key_ranged z
-key_kept z = within_kept (pos 0) (pos 31) z (omega (arith, ints)) (omega (arith, ints))
+key_kept z = within_kept (pos 0) (pos 31) z refl
 
 device_kept : (o : Option ℤ) → device_ranged (option_map kept o) ≡ device_ranged o
 device_kept None = refl
@@ -274,23 +272,23 @@ device_kept (Some z) = key_kept z
 target_kept : (t : RawTarget) → target_ranged (kept_target t) ≡ target_ranged t
 target_kept RNowhere = refl
 target_kept (RCountKey key) = key_kept key
-target_kept (RAbilityKey key weight) = both _ _ _ _ (key_kept key) (within_kept (pos 1) (pos 100) weight (omega (arith, ints)) (omega (arith, ints)))
+target_kept (RAbilityKey key weight) = both _ _ _ _ (key_kept key) (within_kept (pos 1) (pos 100) weight refl)
 
 pub ranged_kept : (w : RawNode) → ranged (kept_raw w) ≡ ranged w
-ranged_kept (RGroup kind kids) = within_kept (pos 1) (pos 32) kids (omega (arith, ints)) (omega (arith, ints))
+ranged_kept (RGroup kind kids) = within_kept (pos 1) (pos 32) kids refl
 ranged_kept (RPar kids need) =
-    both _ _ _ _ (within_kept (pos 1) (pos 32) kids (omega (arith, ints)) (omega (arith, ints))) (within_kept (pos 1) (pos 32) need (omega (arith, ints)) (omega (arith, ints)))
+    both _ _ _ _ (within_kept (pos 1) (pos 32) kids refl) (within_kept (pos 1) (pos 32) need refl)
 ranged_kept RNot = refl
-ranged_kept (RLoop kind times) = within_kept (pos 1) (pos 60000) times (omega (arith, ints)) (omega (arith, ints))
-ranged_kept (RSkill k d t) = both _ _ _ _ (within_kept (pos 0) (pos 63) k (omega (arith, ints)) (omega (arith, ints))) (both _ _ _ _ (device_kept d) (target_kept t))
-ranged_kept (RCount key least) = both _ _ _ _ (key_kept key) (within_kept (negsuc 999999) (pos 1000000) least (omega (arith, ints)) (omega (arith, ints)))
+ranged_kept (RLoop kind times) = within_kept (pos 1) (pos 60000) times refl
+ranged_kept (RSkill k d t) = both _ _ _ _ (within_kept (pos 0) (pos 63) k refl) (both _ _ _ _ (device_kept d) (target_kept t))
+ranged_kept (RCount key least) = both _ _ _ _ (key_kept key) (within_kept (negsuc 999999) (pos 1000000) least refl)
 ranged_kept (RAbility key least over) =
     both _ _ _ _ (key_kept key)
-    (both _ _ _ _ (within_kept (pos 1) (pos 100) over (omega (arith, ints)) (omega (arith, ints))) (within_kept (negsuc 9999) (pos 10000) least (omega (arith, ints)) (omega (arith, ints))))
+    (both _ _ _ _ (within_kept (pos 1) (pos 100) over refl) (within_kept (negsuc 9999) (pos 10000) least refl))
 
 -- and a line in range is held as it is
 key_same : (z : ℤ) → key_ranged z ≡ true → kept z ≡ z
-key_same z h = same_kept (pos 0) (pos 31) z (omega (arith, ints)) (omega (arith, ints)) h
+key_same z h = same_kept (pos 0) (pos 31) z refl h
 
 device_same : (o : Option ℤ) → device_ranged o ≡ true → option_map kept o ≡ o
 device_same None h = refl
@@ -301,37 +299,37 @@ target_same RNowhere h = refl
 target_same (RCountKey key) h = ap RCountKey (key_same key h)
 target_same (RAbilityKey key weight) h =
     let p = and_parts (key_ranged key) _ h in
-    λ i. RAbilityKey (key_same key p.0 i) (same_kept (pos 1) (pos 100) weight (omega (arith, ints)) (omega (arith, ints)) p.1 i)
+    λ i. RAbilityKey (key_same key p.0 i) (same_kept (pos 1) (pos 100) weight refl p.1 i)
 
 pub same_raw : (w : RawNode) → ranged w ≡ true → kept_raw w ≡ w
-same_raw (RGroup kind kids) h = ap (RGroup kind) (same_kept (pos 1) (pos 32) kids (omega (arith, ints)) (omega (arith, ints)) h)
+same_raw (RGroup kind kids) h = ap (RGroup kind) (same_kept (pos 1) (pos 32) kids refl h)
 same_raw (RPar kids need) h =
     let p = and_parts (within (pos 1) (pos 32) kids) _ h in
-    λ i. RPar (same_kept (pos 1) (pos 32) kids (omega (arith, ints)) (omega (arith, ints)) p.0 i) (same_kept (pos 1) (pos 32) need (omega (arith, ints)) (omega (arith, ints)) p.1 i)
+    λ i. RPar (same_kept (pos 1) (pos 32) kids refl p.0 i) (same_kept (pos 1) (pos 32) need refl p.1 i)
 same_raw RNot h = refl
-same_raw (RLoop kind times) h = ap (RLoop kind) (same_kept (pos 1) (pos 60000) times (omega (arith, ints)) (omega (arith, ints)) h)
+same_raw (RLoop kind times) h = ap (RLoop kind) (same_kept (pos 1) (pos 60000) times refl h)
 same_raw (RSkill k d t) h =
     let p = and_parts (within (pos 0) (pos 63) k) _ h in
     let q = and_parts (device_ranged d) _ p.1 in
-    λ i. RSkill (same_kept (pos 0) (pos 63) k (omega (arith, ints)) (omega (arith, ints)) p.0 i) (device_same d q.0 i) (target_same t q.1 i)
+    λ i. RSkill (same_kept (pos 0) (pos 63) k refl p.0 i) (device_same d q.0 i) (target_same t q.1 i)
 same_raw (RCount key least) h =
     let p = and_parts (key_ranged key) _ h in
-    λ i. RCount (key_same key p.0 i) (same_kept (negsuc 999999) (pos 1000000) least (omega (arith, ints)) (omega (arith, ints)) p.1 i)
+    λ i. RCount (key_same key p.0 i) (same_kept (negsuc 999999) (pos 1000000) least refl p.1 i)
 same_raw (RAbility key least over) h =
     let p = and_parts (key_ranged key) _ h in
     let q = and_parts (within (pos 1) (pos 100) over) _ p.1 in
-    λ i. RAbility (key_same key p.0 i) (same_kept (negsuc 9999) (pos 10000) least (omega (arith, ints)) (omega (arith, ints)) q.1 i) (same_kept (pos 1) (pos 100) over (omega (arith, ints)) (omega (arith, ints)) q.0 i)
+    λ i. RAbility (key_same key p.0 i) (same_kept (negsuc 9999) (pos 10000) least refl q.1 i) (same_kept (pos 1) (pos 100) over refl q.0 i)
 
 -- a line that is read, judged
 pub judged : (xs : List ℕ) (w : RawNode) (r : Result Node Flaw) → Some w ≡ parsed xs
-    → MatchResult r (λ n. (raw n ≡ w) × (ranged w ≡ true)) (λ e. (e ≡ Range) × (ranged w ≡ false)) → JudgedLine xs r
+    → RangeJudged ranged raw w r → LineJudged line ranged raw xs r
 judged xs w (Ok n) e h =
     let p = parsed_sound xs w (sym e) in
     let good : ranged p.0 ≡ true = sym (ranged_kept p.0) ∙ ap ranged (sym p.2) ∙ h.1 in
     (p.1 ∙ ap line (sym (same_raw p.0 good) ∙ sym p.2 ∙ sym h.0), ap ranged h.0 ∙ h.1)
 judged xs w (Err f) e h =
     let p = parsed_sound xs w (sym e) in
-    subst (λ (g : Flaw). JudgedLine xs (Err g)) (sym h.0) (p.0, p.1, sym (ranged_kept p.0) ∙ ap ranged (sym p.2) ∙ h.1)
+    subst (λ (g : Flaw). Bad line ranged xs g) (sym h.0) (p.0, p.1, sym (ranged_kept p.0) ∙ ap ranged (sym p.2) ∙ h.1)
 
 pub no_line : (xs : List ℕ) → None ≡ parsed xs → (w : RawNode) → xs ≡ line w → ⊥
 no_line xs n w e = never (n ∙ ap parsed e ∙ parsed_line w)

@@ -7,15 +7,15 @@ use Rattle.mission.specs.Lines.{raw, ranged, all_ranged}
 use Rattle.mission.specs.Texts.{ended, node_line}
 use Rattle.mission.specs.Reading.{Taken}
 
-pub ended_push : (ls : List (List ℕ)) (l t : List ℕ) → ended (ls ++ (l ∷ [])) ++ t ≡ ended ls ++ (l ++ (10 ∷ t))
-ended_push [] l t = append_assoc l (10 ∷ []) t
-ended_push (k ∷ ls) l t =
-    append_assoc k (10 ∷ ended (ls ++ (l ∷ []))) t ∙ ap (λ xs. k ++ (10 ∷ xs)) (ended_push ls l t) ∙ sym (append_assoc k (10 ∷ ended ls) (l ++ (10 ∷ t)))
+pub ended_both : (ks ls : List (List ℕ)) → ended ks ++ ended ls ≡ ended (ks ++ ls)
+ended_both [] ls = refl
+ended_both (k ∷ ks) ls = append_assoc k (10 ∷ ended ks) (ended ls) ∙ ap (λ xs. k ++ (10 ∷ xs)) (ended_both ks ls)
 
 pub ended_append : (ks ls : List (List ℕ)) (t : List ℕ) → ended ks ++ (ended ls ++ t) ≡ ended (ks ++ ls) ++ t
-ended_append [] ls t = refl
-ended_append (k ∷ ks) ls t =
-    append_assoc k (10 ∷ ended ks) (ended ls ++ t) ∙ ap (λ xs. k ++ (10 ∷ xs)) (ended_append ks ls t) ∙ sym (append_assoc k (10 ∷ ended (ks ++ ls)) t)
+ended_append ks ls t = sym (append_assoc (ended ks) (ended ls) t) ∙ ap (λ xs. xs ++ t) (ended_both ks ls)
+
+pub ended_push : (ls : List (List ℕ)) (l t : List ℕ) → ended (ls ++ (l ∷ [])) ++ t ≡ ended ls ++ (l ++ (10 ∷ t))
+ended_push ls l t = sym (ended_append ls (l ∷ []) t) ∙ ap (λ xs. ended ls ++ xs) (append_assoc l (10 ∷ []) t)
 
 ranged_push : (ns : List Node) (n : Node) → all_ranged ns ≡ true → ranged (raw n) ≡ true → all_ranged (ns ++ (n ∷ [])) ≡ true
 ranged_push [] n h g = and_from (ranged (raw n)) true g refl

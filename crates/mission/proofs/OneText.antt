@@ -205,7 +205,7 @@ load_of (RSkill skill device target) = weight_of target
 load_of (RCount key least) = None
 load_of (RAbility key least over) = None
 
-counted_least : (n : Node) → option_map (λ (t : CountThreshold). t.least) (counted n) ≡ least_of (raw n)
+counted_least : (n : Node) → option_map (λ (t : CountThreshold). t.least.value) (counted n) ≡ least_of (raw n)
 counted_least (Group kind kids) = refl
 counted_least (Par kids need) = refl
 counted_least Not = refl
@@ -214,7 +214,7 @@ counted_least (Skill skill device target) = refl
 counted_least (Count key least) = refl
 counted_least (Ability key least) = refl
 
-able_ratio : (n : Node) → option_map (λ (t : AbilityThreshold). (t.least, pos t.over)) (able n) ≡ ratio_of (raw n)
+able_ratio : (n : Node) → option_map (λ (t : AbilityThreshold). (t.least.value, pos t.over.value)) (able n) ≡ ratio_of (raw n)
 able_ratio (Group kind kids) = refl
 able_ratio (Par kids need) = refl
 able_ratio Not = refl
@@ -249,9 +249,9 @@ pos_same a b e = ap nat_abs e
 
 pub one_node : (n m : Node) → raw n ≡ raw m → n ≡ m
 one_node n m e =
-    let c = same_mapped (λ (t : CountThreshold). t.least) same_count_threshold (counted n) (counted m) (counted_least n ∙ ap least_of e ∙ sym (counted_least m)) in
-    let a = same_mapped (λ (t : AbilityThreshold). (t.least, pos t.over))
-    (λ s t q. same_ability_threshold s t (ap (λ (p : ℤ × ℤ). p.0) q) (pos_same s.over t.over (ap (λ (p : ℤ × ℤ). p.1) q)))
+    let c = same_mapped (λ (t : CountThreshold). t.least.value) same_count_threshold (counted n) (counted m) (counted_least n ∙ ap least_of e ∙ sym (counted_least m)) in
+    let a = same_mapped (λ (t : AbilityThreshold). (t.least.value, pos t.over.value))
+    (λ s t q. same_ability_threshold s t (ap (λ (p : ℤ × ℤ). p.0) q) (pos_same s.over.value t.over.value (ap (λ (p : ℤ × ℤ). p.1) q)))
     (able n) (able m) (able_ratio n ∙ ap ratio_of e ∙ sym (able_ratio m)) in
     let w = same_mapped (λ (w : Weight). pos w.value) (λ v w q. same_weight v w (pos_same v.value w.value q)) (weighed n) (weighed m) (weighed_load n ∙ ap load_of e ∙ sym (weighed_load m)) in
     some_same n m (sym (rebuilt_back n) ∙ (λ i. rebuilt (c i) (a i) (w i) (e i)) ∙ rebuilt_back m)
@@ -270,7 +270,7 @@ cons_same : {X : Type 0} (x y : X) (xs ys : List X) → ◌≡◌ {A = List X} (
 cons_same x y xs ys e = (cc, cc)
 
 no_cons : {X Y : Type 0} (x : X) (xs : List X) → ◌≡◌ {A = List X} [] (x ∷ xs) → Y
-no_cons x xs e = let z : ◌≡◌ {A = ℕ} 0 1 = cc in absurd (omega arith)
+no_cons x xs e = absurd cc
 
 one_nodes : (ns ms : List Node) → all_ranged ns ≡ true → all_ranged ms ≡ true → map node_line ns ≡ map node_line ms → ns ≡ ms
 one_nodes [] [] g h e = refl

@@ -4,6 +4,7 @@ pub mod Parsing
 pub mod Places
 pub mod Lawful
 pub mod Faults
+pub mod Words
 pub mod Shapes
 pub mod Texts
 pub mod Reading
@@ -14,3 +15,4 @@ pub mod Pages
 pub mod Pieces
 pub mod Seen
 pub mod Judging
+pub mod Readers

@@ -117,12 +117,17 @@ raw (Par kids need) = RPar (pos kids) (pos need)
 raw Not = RNot
 raw (Loop kind times) = RLoop kind (pos times)
 raw (Skill skill device target) = RSkill (pos skill) (option_map pos device) (raw_target target)
-raw (Count key least) = RCount (pos key) least.least
-raw (Ability key least) = RAbility (pos key) least.least (pos least.over)
+raw (Count key least) = RCount (pos key) least.least.value
+raw (Ability key least) = RAbility (pos key) least.least.value (pos least.over.value)
 
 abbrev pub all_ranged : List Node → Bool
 all_ranged [] = true
 all_ranged (n ∷ ns) = ranged (raw n) && all_ranged ns
+
+-- raw numbers held to their ranges: this is what they make, all in range, or they are out of range
+abbrev pub RangeJudged : {X Y : Type 0} → (X → Bool) → (Y → X) → X → Result Y Flaw → Type 0
+RangeJudged good view x (Ok y) = (view y ≡ x) × (good x ≡ true)
+RangeJudged good view x (Err f) = (f ≡ Range) × (good x ≡ false)
 
 -- what is wrong with a line that is to be of one of the forms, its numbers in range: it is of none of them, or it is out
 -- of range
@@ -130,7 +135,17 @@ abbrev pub Bad : {X : Type 0} → (X → List ℕ) → (X → Bool) → List ℕ
 Bad {X} form good xs Form = (x : X) → xs ≢ form x
 Bad {X} form good xs Range = (x : X) × (xs ≡ form x) × (good x ≡ false)
 
--- the judgement of a node line: the node whose line it is, or what is wrong with it
-abbrev pub JudgedLine : List ℕ → Result Node Flaw → Type 0
-JudgedLine xs (Ok n) = (xs ≡ line (raw n)) × (ranged (raw n) ≡ true)
-JudgedLine xs (Err f) = Bad line ranged xs f
+-- the judgement of a line: it is of this form, its numbers in range, or this is wrong with it
+abbrev pub LineJudged : {X Y : Type 0} → (X → List ℕ) → (X → Bool) → (Y → X) → List ℕ → Result Y Flaw → Type 0
+LineJudged form good view xs (Ok y) = (xs ≡ form (view y)) × (good (view y) ≡ true)
+LineJudged form good view xs (Err f) = Bad form good xs f
+
+-- a conversion is refused for no number of a range
+abbrev pub Covers : {T E : Type 0} → (ℤ → Result T E → Type 0) → ℤ → ℤ → Type 0
+Covers {T} {E} gives low high = (z : ℤ) (e : E) → within low high z ≡ true → gives z (Err e) → ⊥
+
+-- the judgement of a line that is to declare a number of this name and range: it does, and this is what the number
+-- converts to; or this is wrong with the line
+abbrev pub NumberJudged : {T E : Type 0} → (ℤ → Result T E → Type 0) → List ℕ → ℤ → ℤ → List ℕ → Result T Flaw → Type 0
+NumberJudged gives name low high xs (Ok n) = (z : ℤ) × gives z (Ok n) × (xs ≡ number_field name z) × (within low high z ≡ true)
+NumberJudged gives name low high xs (Err f) = Bad (number_field name) (within low high) xs f

@@ -1,5 +1,9 @@
-ghost use Rattle.std.specs.Prelude.{◌≡◌};
+ghost use Rattle.std.specs.Prelude.{◌≡◌, Some};
 ghost use Rattle.mission.specs.Lawful.{number as number_of};
+ghost use Rattle.mission.specs.Words.{breach_words};
+
+use std::error::Error;
+use std::fmt;
 
 // The ways in which a node can break the law of the tree.
 #[derive(Clone, Copy, PartialEq, Eq, Debug)]
@@ -18,9 +22,28 @@ pub enum Breach {
 
 impl Breach {
     // Its number among the refusals.
+    // Kept: its number is its discriminant, so the cast needs no second table.
     pub fn number(self) -> u8
         ensures { result ≡ number_of self }
     {
         self as u8
     }
 }
+
+// A breach is printed as words that help a writer mend the line.
+impl fmt::Display for Breach {
+    ghost output = { λ b. Some (breach_words b) };
+
+    fn fmt<W: fmt::Write>(&self, f: &mut fmt::Formatter<W>) -> fmt::Result {
+        f.write_str(match self {
+            Breach::Place =>
+                "the node finds no open place, or places stay open after the last node",
+            Breach::Level => "the node is below level 16",
+            Breach::Twice => "the skill was named on an earlier line",
+            Breach::Key => "the key is not below its declared number",
+            Breach::Need => "need exceeds kids",
+        })
+    }
+}
+
+impl Error for Breach {}

@@ -1,8 +1,11 @@
-ghost use Rattle.std.specs.Prelude.{◌≡◌};
+ghost use Rattle.std.specs.Prelude.{◌≡◌, Some};
 ghost use Rattle.mission.specs.Faults.{flaw_number};
+ghost use Rattle.mission.specs.Words.{flaw_words};
 ghost use Rattle.mission.specs.declared.flaw.Flaw.TheVariants.{Range as OutOfRange};
 
 use entry::entry_fault::EntryFault;
+use std::error::Error;
+use std::fmt;
 
 // What can be wrong with a line by itself.
 #[derive(Clone, Copy, PartialEq, Eq, Debug)]
@@ -15,6 +18,7 @@ pub enum Flaw {
 
 impl Flaw {
     // Its number among the refusals.
+    // Kept: its number is its discriminant, so the cast needs no second table.
     pub fn number(self) -> u8
         ensures { result ≡ flaw_number self }
     {
@@ -30,3 +34,17 @@ impl From<EntryFault> for Flaw {
         Flaw::Range
     }
 }
+
+// A flaw is printed as words that help a writer mend the line.
+impl fmt::Display for Flaw {
+    ghost output = { λ f. Some (flaw_words f) };
+
+    fn fmt<W: fmt::Write>(&self, f: &mut fmt::Formatter<W>) -> fmt::Result {
+        f.write_str(match self {
+            Flaw::Form => "the line is not of its form, is missing, or follows the last node",
+            Flaw::Range => "a number of the line is outside its range",
+        })
+    }
+}
+
+impl Error for Flaw {}

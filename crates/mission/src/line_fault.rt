@@ -1,3 +1,4 @@
+ghost use Rattle.std.specs.Prelude.{◌≡◌};
 ghost use Rattle.mission.specs.Faults.{flaw_number, text_layer};
 
 use crate::flaw::Flaw;
@@ -5,10 +6,20 @@ use fault::layer::Layer;
 use fault::refusal::Refusal;
 
 // The fault of a line of a text, with its line from 1.
-#[derive(Clone, Copy, Debug)]
+#[derive(Clone, Copy, PartialEq, Eq, Debug)]
 pub struct LineFault {
     pub flaw: Flaw,
     pub line: u32,
+}
+
+impl Flaw {
+    // This flaw, at its line.
+    pub(crate) fn at(self, line: u32) -> LineFault
+        ensures flaw { result.flaw ≡ self }
+        ensures line { result.line ≡ line }
+    {
+        LineFault { flaw: self, line }
+    }
 }
 
 impl Refusal for LineFault {

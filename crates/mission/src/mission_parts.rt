@@ -47,7 +47,7 @@ impl Mission {
         ensures value { result.now ≡ (meaning self.now).nodes }
         ensures tree { Means (meaning self.now).nodes × Inverse }
     {
-        &self.outline.nodes[0..self.outline.len]
+        &self.outline.nodes[..usize::from(self.outline.len)]
     }
 
     // The number of skill leaves.
@@ -55,12 +55,6 @@ impl Mission {
         ensures count { result ≡ skill_count (meaning self.now).nodes }
         ensures most { result ≤ 256 }
     {
-        let mut skills = 0;
-        for i in 0..self.outline.len {
-            if self.outline.node(i).skill().is_some() {
-                skills += 1;
-            }
-        }
-        skills
+        self.nodes().iter().filter(|n| n.skill().is_some()).count()
     }
 }

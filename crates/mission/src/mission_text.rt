@@ -30,12 +30,11 @@ impl Mission {
         ensures outcome { MatchResult result (λ n. Put (text_of (meaning self.now)) page.old page.new n) (λ _. TooLong (text_of (meaning self.now)) page.old × (page.new ≡ page.old)) }
         ensures back { OwnText self.now }
     {
-        let mut nothing = [0u8; 0];
-        let len = lay(&self.outline, &mut nothing);
+        // The first pass only counts, so that a page that is too short stays as it was.
+        let len = lay(&self.outline, &mut []);
         if len > page.len() {
             return Err(PageFault);
         }
-        lay(&self.outline, page);
-        Ok(len)
+        Ok(lay(&self.outline, page))
     }
 }

@@ -5,7 +5,7 @@ use entry::parts::{AbilityThreshold, CountThreshold, Weight};
 
 // The groups that visit one child after another: `seq` and `mseq` go on after a pass, `fall` and
 // `mfall` after a fail; `mseq` and `mfall` remember the child that runs.
-#[derive(Clone, Copy)]
+#[derive(Clone, Copy, PartialEq, Eq, Debug)]
 pub enum GroupKind {
     Seq,
     Fall,
@@ -14,14 +14,14 @@ pub enum GroupKind {
 }
 
 // The decorators that visit their child again: `retry` after a fail, `repeat` after a pass.
-#[derive(Clone, Copy)]
+#[derive(Clone, Copy, PartialEq, Eq, Debug)]
 pub enum LoopKind {
     Retry,
     Repeat,
 }
 
 // Where the mark of a passing skill goes.
-#[derive(Clone, Copy)]
+#[derive(Clone, Copy, PartialEq, Eq, Debug)]
 pub enum Target {
     Nowhere,
     Count { key: u8 },
@@ -29,7 +29,7 @@ pub enum Target {
 }
 
 // One node of a mission, without its children, which follow it in preorder.
-#[derive(Clone, Copy)]
+#[derive(Clone, Copy, PartialEq, Eq, Debug)]
 pub enum Node {
     Group {
         kind: GroupKind,

@@ -5,12 +5,14 @@ use crate::node::Node;
 
 // The declared numbers and the nodes of a mission in preorder, every number in its range. Whether the
 // nodes make a tree is not judged yet.
+// Kept: a table with its length beside it. No call of the libraries allocates, and an outline is
+// copied whole, which a vector of fixed room is not.
 #[derive(Clone, Copy)]
 pub struct Outline {
     pub(crate) counts: u8,
     pub(crate) abilities: u8,
     pub(crate) nodes: [Node; 256],
-    pub(crate) len: usize,
+    pub(crate) len: u16,
     ghost few_counts: { counts ≤ 32 },
     ghost few_abilities: { abilities ≤ 32 },
     ghost some: { 1 ≤ len },

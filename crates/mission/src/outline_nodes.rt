@@ -7,10 +7,10 @@ use crate::outline::Outline;
 
 impl Outline {
     // Node `at`, from 0.
-    pub(crate) fn node(&self, at: usize) -> Node
+    pub(crate) fn node(&self, at: u16) -> Node
         requires { at < self.now.len }
         ensures { result ≡ node_at (shape self.now).nodes at }
     {
-        self.nodes[at]
+        self.nodes[usize::from(at)]
     }
 }

@@ -1,8 +1,8 @@
 // The numbers of a line held to their ranges.
-ghost use Rattle.std.specs.Prelude.{◌≡◌, true, false, pos, MatchResult};
+ghost use Rattle.std.specs.Prelude.{◌≡◌, Ok, Err, true, false, pos, MatchResult};
 ghost use Rattle.std.specs.Option.{option_map};
 ghost use Rattle.text.specs.Numeral.{within};
-ghost use Rattle.mission.specs.Lines.{ranged, raw as raw_of, device_ranged, target_ranged, raw_target};
+ghost use Rattle.mission.specs.Lines.{ranged, raw as raw_of, device_ranged, target_ranged, raw_target, RangeJudged, Covers};
 ghost use Rattle.mission.specs.declared.raw.RawNode.TheVariants.{Skill as RSkill, Count as RCount, Ability as RAbility};
 ghost use Rattle.mission.specs.declared.flaw.Flaw.TheVariants.{Range as OutOfRange};
 
@@ -11,105 +11,85 @@ use crate::node::{Node, Target};
 use crate::raw::{RawNode, RawTarget};
 use entry::parts::{AbilityThreshold, CountThreshold, Weight};
 
-// The number, where it lies from `low` to `high`.
-fn byte(z: i32, low: u8, high: u8) -> Result<u8, Flaw>
-    ensures { MatchResult result (λ b. (pos b ≡ z) × (within (pos low) (pos high) z ≡ true)) (λ e. (e ≡ OutOfRange) × (within (pos low) (pos high) z ≡ false)) }
+// The number, where it lies from `low` to `high`; the type has each number of that range.
+pub(crate) fn in_range<T: TryFrom<i32>>(z: i32, low: i32, high: i32) -> Result<T, Flaw>
+where
+    T::Error: Drop,
+    requires { Covers T.try_from_gives low high }
+    ensures { MatchResult result (λ n. T.try_from_gives z (Ok n) × (within low high z ≡ true)) (λ e. (e ≡ OutOfRange) × (within low high z ≡ false)) }
 {
-    if low as i32 <= z && z <= high as i32 {
-        Ok(z as u8)
-    } else {
-        Err(Flaw::Range)
+    if !(low..=high).contains(&z) {
+        return Err(Flaw::Range);
     }
-}
-
-// The number, where it lies from `low` to `high`.
-pub(crate) fn in_span(z: i32, low: u16, high: u16) -> Result<u16, Flaw>
-    ensures { MatchResult result (λ n. (pos n ≡ z) × (within (pos low) (pos high) z ≡ true)) (λ e. (e ≡ OutOfRange) × (within (pos low) (pos high) z ≡ false)) }
-{
-    if low as i32 <= z && z <= high as i32 {
-        Ok(z as u16)
-    } else {
-        Err(Flaw::Range)
-    }
+    T::try_from(z).map_err(|_| Flaw::Range)
 }
 
 fn device_of(device: Option<i32>) -> Result<Option<u8>, Flaw>
-    ensures { MatchResult result (λ d. (option_map pos d ≡ device) × (device_ranged device ≡ true)) (λ e. (e ≡ OutOfRange) × (device_ranged device ≡ false)) }
+    ensures { RangeJudged device_ranged (option_map pos) device result }
 {
-    match device {
-        Some(z) => {
-            let d = byte(z, 0, 31)?;
-            Ok(Some(d))
-        }
-        None => Ok(None),
-    }
+    device.map(|z| in_range(z, 0, 31)).transpose()
 }
 
 fn target_of(target: RawTarget) -> Result<Target, Flaw>
-    ensures { MatchResult result (λ t. (raw_target t ≡ target) × (target_ranged target ≡ true)) (λ e. (e ≡ OutOfRange) × (target_ranged target ≡ false)) }
+    ensures { RangeJudged target_ranged raw_target target result }
 {
     match target {
         RawTarget::Nowhere => Ok(Target::Nowhere),
         RawTarget::Count { key } => {
-            let key = byte(key, 0, 31)?;
+            let key = in_range(key, 0, 31)?;
             Ok(Target::Count { key })
         }
         RawTarget::Ability { key, weight } => {
-            let key = byte(key, 0, 31)?;
-            let weight = byte(weight, 1, 100)?;
-            let weight = Weight::new(weight)?;
+            let key = in_range(key, 0, 31)?;
+            let weight = Weight::new(in_range(weight, 1, 100)?)?;
             Ok(Target::Ability { key, weight })
         }
     }
 }
 
 fn skill_node(skill: i32, device: Option<i32>, target: RawTarget) -> Result<Node, Flaw>
-    ensures { MatchResult result (λ n. (raw_of n ≡ RSkill skill device target) × (ranged (RSkill skill device target) ≡ true)) (λ e. (e ≡ OutOfRange) × (ranged (RSkill skill device target) ≡ false)) }
+    ensures { RangeJudged ranged raw_of (RSkill skill device target) result }
 {
-    let skill = byte(skill, 0, 63)?;
-    let device = device_of(device)?;
-    let target = target_of(target)?;
     Ok(Node::Skill {
-        skill,
-        device,
-        target,
+        skill: in_range(skill, 0, 63)?,
+        device: device_of(device)?,
+        target: target_of(target)?,
     })
 }
 
 fn count_node(key: i32, least: i32) -> Result<Node, Flaw>
-    ensures { MatchResult result (λ n. (raw_of n ≡ RCount key least) × (ranged (RCount key least) ≡ true)) (λ e. (e ≡ OutOfRange) × (ranged (RCount key least) ≡ false)) }
+    ensures { RangeJudged ranged raw_of (RCount key least) result }
 {
-    let key = byte(key, 0, 31)?;
+    let key = in_range(key, 0, 31)?;
     let least = CountThreshold::new(least)?;
     Ok(Node::Count { key, least })
 }
 
 fn ability_node(key: i32, least: i32, over: i32) -> Result<Node, Flaw>
-    ensures { MatchResult result (λ n. (raw_of n ≡ RAbility key least over) × (ranged (RAbility key least over) ≡ true)) (λ e. (e ≡ OutOfRange) × (ranged (RAbility key least over) ≡ false)) }
+    ensures { RangeJudged ranged raw_of (RAbility key least over) result }
 {
-    let key = byte(key, 0, 31)?;
-    let over = byte(over, 1, 100)?;
-    let least = AbilityThreshold::new(least, over)?;
+    let key = in_range(key, 0, 31)?;
+    let least = AbilityThreshold::new(least, in_range(over, 1, 100)?)?;
     Ok(Node::Ability { key, least })
 }
 
 // The node whose line this is, where every number of it is in its range.
 pub(crate) fn node_of(raw: RawNode) -> Result<Node, Flaw>
-    ensures { MatchResult result (λ n. (raw_of n ≡ raw) × (ranged raw ≡ true)) (λ e. (e ≡ OutOfRange) × (ranged raw ≡ false)) }
+    ensures { RangeJudged ranged raw_of raw result }
 {
     match raw {
         RawNode::Group { kind, kids } => {
-            let kids = byte(kids, 1, 32)?;
+            let kids = in_range(kids, 1, 32)?;
             Ok(Node::Group { kind, kids })
         }
         RawNode::Par { kids, need } => {
-            let kids = byte(kids, 1, 32)?;
-            let need = byte(need, 1, 32)?;
+            let kids = in_range(kids, 1, 32)?;
+            let need = in_range(need, 1, 32)?;
             Ok(Node::Par { kids, need })
         }
         RawNode::Not => Ok(Node::Not),
         RawNode::Loop { kind, times } => {
-            let times = in_span(times, 1, 60_000)?;
+            let times = in_range(times, 1, 60_000)?;
             Ok(Node::Loop { kind, times })
         }
         RawNode::Skill {

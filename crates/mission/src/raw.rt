@@ -13,6 +13,8 @@ pub(crate) enum NodeKind {
 }
 
 // The last fields of a skill line, with their numbers as they are written.
+// Kept beside `Target`: there each number has a type of its own range, so one enum would need a type
+// parameter for each.
 #[derive(Clone, Copy)]
 pub(crate) enum RawTarget {
     Nowhere,
@@ -20,7 +22,8 @@ pub(crate) enum RawTarget {
     Ability { key: i32, weight: i32 },
 }
 
-// A node line of its form, with its numbers as they are written, in or out of range.
+// A node line of its form, with its numbers as they are written, in or out of range. Kept beside
+// `Node` for the same reason.
 #[derive(Clone, Copy)]
 pub(crate) enum RawNode {
     Group {

@@ -1,30 +1,35 @@
 // The nodes of an outline judged as a tree: a node reads its run of children, a run reads nodes.
-ghost use Rattle.std.specs.Prelude.{◌≡◌, ℕ, ◌+◌, ◌<◌, ◌≤◌, Bool, true, false, not, ◌&&◌, ◌||◌, length, Decides, MatchResult, ◌==◌, nat_lt};
-ghost use Rattle.mission.specs.Lawful.{Lawful, Sound, TargetBeyond, Beyond, Overneeds, Again};
-ghost use Rattle.mission.specs.Places.{places, node_at};
-ghost use Rattle.mission.specs.Judging.{Judged, Reading, Filled, Refused};
-ghost use Rattle.mission.specs.Seen.{row, noted, noted_in};
+ghost use Rattle.std.specs.Prelude.{◌≡◌, ◌+◌, ◌*◌, ◌<◌, ◌≤◌, length, Decides, MatchResult};
+ghost use Rattle.mission.specs.Lawful.{Lawful, Sound, Unplaced, Again, Beyond, Overneeds};
+ghost use Rattle.mission.specs.Places.{places};
+ghost use Rattle.mission.specs.Judging.{Judged, Refused};
+ghost use Rattle.mission.specs.Seen.{row};
 ghost use Rattle.mission.specs.Shapes.{shape};
-ghost use Rattle.mission.specs.Nodes.{arity, skill_of};
+ghost use Rattle.mission.specs.Nodes.{arity};
 
 use crate::breach::Breach;
 use crate::node::{Node, Target};
 use crate::outline::Outline;
 use crate::reading::NODES_BEGIN;
+use crate::skills::Skills;
 use crate::tree_fault::TreeFault;
 
 // The deepest level that a node may have.
 const LEVELS: u8 = 16;
 
-// Is the key of the target not below its declared number?
-fn target_beyond(outline: &Outline, target: Target) -> bool
-    ensures { Decides result (TargetBeyond (shape outline.now) target) }
-{
-    match target {
-        Target::Nowhere => false,
-        Target::Count { key } => key >= outline.counts,
-        Target::Ability { key, .. } => key >= outline.abilities,
-    }
+// The nodes before `at` are read: none of them breaks the law, and their skills are noted. So many
+// places are open after them.
+#[derive(Drop)]
+struct Reader<'a> {
+    outline: &'a Outline,
+    at: u16,
+    still_open: usize,
+    skills: Skills,
+    ghost within: { at ≤ outline.now.len },
+    ghost sound: { Sound (shape outline.now) at },
+    ghost noted: { skills ≡ row (shape outline.now).nodes at },
+    ghost opened: { still_open ≡ length (places (shape outline.now).nodes at) },
+    ghost few: { still_open ≤ 1 + 255 * at },
 }
 
 // Is a key of the node not below its declared number?
@@ -32,9 +37,16 @@ fn key_beyond(outline: &Outline, node: Node) -> bool
     ensures { Decides result (Beyond (shape outline.now) node) }
 {
     match node {
-        Node::Skill { target, .. } => target_beyond(outline, target),
-        Node::Count { key, .. } => key >= outline.counts,
-        Node::Ability { key, .. } => key >= outline.abilities,
+        Node::Count { key, .. }
+        | Node::Skill {
+            target: Target::Count { key },
+            ..
+        } => key >= outline.counts,
+        Node::Ability { key, .. }
+        | Node::Skill {
+            target: Target::Ability { key, .. },
+            ..
+        } => key >= outline.abilities,
         _ => false,
     }
 }
@@ -42,136 +54,140 @@ fn key_beyond(outline: &Outline, node: Node) -> bool
 fn needs_too_many(node: Node) -> bool
     ensures { Decides result (Overneeds node) }
 {
-    match node {
-        Node::Par { kids, need } => need > kids,
-        _ => false,
-    }
+    matches!(node, Node::Par { kids, need } if need > kids)
 }
 
-// Was the node's skill named before?
-fn named_before(seen: &[bool; 64], node: Node) -> bool
-    ensures { result ≡ noted_in seen.now (skill_of node) }
-{
-    match node.skill() {
-        Some(skill) => skill < 64 && seen[skill as usize],
-        None => false,
-    }
-}
+impl<'a> Reader<'a> {
+    ghost use Rattle.mission.specs.Readers.{outlined, next_node, Inside, Opens, Same, Fills};
 
-// Notes the skill that the node names.
-fn note(seen: &mut [bool; 64], node: Node)
-    ensures { seen.new ≡ noted seen.old (skill_of node) }
-{
-    if let Some(skill) = node.skill() {
-        if skill < 64 {
-            seen[skill as usize] = true;
+    // Nothing is read yet, and one place is open.
+    fn of(outline: &'a Outline) -> Reader<'a>
+        ensures outline { result.outline.now ≡ outline.now }
+        ensures at { result.at ≡ 0 }
+    {
+        Reader {
+            outline,
+            at: 0,
+            still_open: 1,
+            skills: Skills::none(),
         }
     }
-}
 
-// Is this the last node, and places stay open after it? Beside its own, none is open exactly if `alone`.
-fn leaves_open(outline: &Outline, node: Node, at: usize, alone: bool) -> bool
-    requires { at < outline.now.len }
-    ensures { result ≡ (at + 1 == outline.now.len && (not alone || nat_lt 0 (arity node))) }
-{
-    at + 1 == outline.len && (!alone || node.kids() > 0)
-}
+    // The next node.
+    fn node(&self) -> Node
+        requires { Inside self.now }
+        ensures { result ≡ next_node self.now }
+    {
+        self.outline.node(self.at)
+    }
 
-// Judges one node, which stands at an open place of this level.
-fn check_node(
-    outline: &Outline,
-    seen: &[bool; 64],
-    at: usize,
-    level: u8,
-    alone: bool,
-) -> Result<(), Breach>
-    requires reading { Reading (shape outline.now) seen.now at 1 level alone }
-    requires within { at < outline.now.len }
-    ensures { Judged (shape outline.now) at result }
-{
-    let node = outline.node(at);
-    if leaves_open(outline, node, at, alone) {
-        return Err(Breach::Place);
+    // Is the next node, which stands at an open place, the last, and places stay open after it?
+    fn leaves_open(&self) -> bool
+        requires within { Inside self.now }
+        requires place { 0 < self.now.still_open }
+        ensures { Decides result (Unplaced (outlined self.now).nodes self.now.at) }
+    {
+        self.at + 1 == self.outline.len && (self.still_open > 1 || self.node().kids() > 0)
     }
-    if level > LEVELS {
-        return Err(Breach::Level);
-    }
-    if named_before(seen, node) {
-        return Err(Breach::Twice);
-    }
-    if key_beyond(outline, node) {
-        return Err(Breach::Key);
-    }
-    if needs_too_many(node) {
-        return Err(Breach::Need);
-    }
-    Ok(())
-}
 
-// Is the first of a run's places the only one open, where beside the run none is open exactly if `alone`?
-fn only_place(kids: u8, alone: bool) -> bool
-    ensures { result ≡ (alone && kids == 1) }
-{
-    alone && kids == 1
-}
-
-// Reads the node at `at` and all below it, and answers the place after them.
-#[cycle(read_node_read_run)]
-fn read_node(
-    outline: &Outline,
-    seen: &mut [bool; 64],
-    at: usize,
-    level: u8,
-    alone: bool,
-) -> Result<usize, TreeFault>
-    requires reading { Reading (shape outline.now) seen.old at 1 level alone }
-    requires within { at < outline.now.len }
-    requires level { level ≤ 17 }
-    ensures { MatchResult result (λ end. (at < end) × Filled (shape outline.now) seen.new at 1 end) (λ e. Refused (shape outline.now) e) }
-{
-    if let Err(breach) = check_node(outline, seen, at, level, alone) {
-        return Err(TreeFault::Node {
-            breach,
-            line: at as u32 + NODES_BEGIN,
-        });
+    // Was the next node's skill named before?
+    fn names_again(&self) -> bool
+        requires { Inside self.now }
+        ensures { Decides result (Again (outlined self.now).nodes self.now.at) }
+    {
+        self.skills.has(self.node().skill())
     }
-    let node = outline.node(at);
-    note(seen, node);
-    read_run(outline, seen, at + 1, node.kids(), level + 1, alone)
-}
 
-// Reads so many nodes, one after the other.
-#[cycle(read_node_read_run)]
-fn read_run(
-    outline: &Outline,
-    seen: &mut [bool; 64],
-    at: usize,
-    kids: u8,
-    level: u8,
-    alone: bool,
-) -> Result<usize, TreeFault>
-    requires reading { Reading (shape outline.now) seen.old at kids level alone }
-    requires begun { 0 < at }
-    requires level { level ≤ 17 }
-    ensures { MatchResult result (λ end. Filled (shape outline.now) seen.new at kids end) (λ e. Refused (shape outline.now) e) }
-{
-    if kids == 0 {
-        return Ok(at);
+    // Judges the next node, which stands at an open place of this level: of its breaches the one with the
+    // lowest number is told, so the tests stand in that order.
+    fn check(&self, level: u8) -> Result<(), Breach>
+        requires within { Inside self.now }
+        requires next { Opens self.now 1 level }
+        ensures { Judged (outlined self.now) self.now.at result }
+    {
+        if self.leaves_open() {
+            return Err(Breach::Place);
+        }
+        if level > LEVELS {
+            return Err(Breach::Level);
+        }
+        if self.names_again() {
+            return Err(Breach::Twice);
+        }
+        if key_beyond(self.outline, self.node()) {
+            return Err(Breach::Key);
+        }
+        if needs_too_many(self.node()) {
+            return Err(Breach::Need);
+        }
+        Ok(())
     }
-    let next = read_node(outline, seen, at, level, only_place(kids, alone))?;
-    read_run(outline, seen, next, kids - 1, level, alone)
+
+    // The line of the next node.
+    fn line(&self) -> u32
+        ensures { result ≡ self.now.at + 5 }
+    {
+        u32::from(self.at) + NODES_BEGIN
+    }
+
+    // Takes the next node, which stands at an open place of this level: it fills its place and opens one
+    // for each child. Answers how many children it has.
+    fn take(&mut self, level: u8) -> Result<u8, TreeFault>
+        requires within { Inside self.old }
+        requires next { Opens self.old 1 level }
+        ensures outline { Same self.old self.new }
+        ensures outcome { MatchResult result (λ kids. (self.new.at ≡ self.old.at + 1) × (kids ≡ arity (next_node self.old)) × (level ≤ 16)) (λ e. Refused (outlined self.old) e) }
+    {
+        let node = self.node();
+        let line = self.line();
+        self.check(level)
+            .map_err(|breach| TreeFault::Node { breach, line })?;
+        let kids = node.kids();
+        self.still_open = self.still_open - 1 + usize::from(kids);
+        self.skills.note(node.skill());
+        self.at += 1;
+        Ok(kids)
+    }
+
+    // Reads the next node, which stands at an open place of this level, and all below it.
+    #[cycle(reader)]
+    fn read_node(&mut self, level: u8) -> Result<(), TreeFault>
+        requires within { Inside self.old }
+        requires next { Opens self.old 1 level }
+        requires level { level ≤ 17 }
+        ensures outline { Same self.old self.new }
+        ensures outcome { MatchResult result (λ _. (self.old.at < self.new.at) × Fills self.old 1 self.new) (λ e. Refused (outlined self.old) e) }
+    {
+        let kids = self.take(level)?;
+        self.read_run(kids, level + 1)
+    }
+
+    // Reads so many nodes, one after the other.
+    #[cycle(reader)]
+    fn read_run(&mut self, kids: u8, level: u8) -> Result<(), TreeFault>
+        requires begun { 0 < self.old.at }
+        requires next { Opens self.old kids level }
+        requires level { level ≤ 17 }
+        ensures outline { Same self.old self.new }
+        ensures outcome { MatchResult result (λ _. Fills self.old kids self.new) (λ e. Refused (outlined self.old) e) }
+    {
+        for _ in 0..kids {
+            self.read_node(level)?;
+        }
+        Ok(())
+    }
 }
 
 // The nodes make a lawful tree, or this is the first breach.
 pub(crate) fn judge(outline: &Outline) -> Result<(), TreeFault>
     ensures { MatchResult result (λ _. Lawful (shape outline.now)) (λ e. Refused (shape outline.now) e) }
 {
-    let mut seen = [false; 64];
-    let end = read_node(outline, &mut seen, 0, 1, true)?;
-    if end < outline.len {
+    let mut reader = Reader::of(outline);
+    reader.read_node(1)?;
+    if reader.at < outline.len {
         return Err(TreeFault::Node {
             breach: Breach::Place,
-            line: end as u32 + NODES_BEGIN,
+            line: reader.line(),
         });
     }
     Ok(())

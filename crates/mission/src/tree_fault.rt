@@ -1,15 +1,18 @@
-ghost use Rattle.std.specs.Prelude.{◌≡◌};
+ghost use Rattle.std.specs.Prelude.{◌≡◌, Some};
 ghost use Rattle.mission.specs.Faults.{tree_number, tree_layer, tree_line};
+ghost use Rattle.mission.specs.Words.{words};
 ghost use Rattle.mission.specs.declared.tree_fault.TreeFault.TheVariants.{Line as ALine};
 
 use crate::breach::Breach;
 use crate::line_fault::LineFault;
 use fault::layer::Layer;
 use fault::refusal::Refusal;
+use std::error::Error;
+use std::fmt;
 
 // The fault of a mission text: the text layer's, handed up whole, or a node that breaks the law of the
 // tree, with the line that it stands on.
-#[derive(Clone, Copy, Debug)]
+#[derive(Clone, Copy, PartialEq, Eq, Debug)]
 pub enum TreeFault {
     Line(LineFault),
     Node { breach: Breach, line: u32 },
@@ -51,3 +54,17 @@ impl Refusal for TreeFault {
         }
     }
 }
+
+// A fault is printed as words that help a writer mend the line, without its line.
+impl fmt::Display for TreeFault {
+    ghost output = { λ f. Some (words f) };
+
+    fn fmt<W: fmt::Write>(&self, f: &mut fmt::Formatter<W>) -> fmt::Result {
+        match self {
+            TreeFault::Line(fault) => write!(f, "{}", fault.flaw),
+            TreeFault::Node { breach, .. } => write!(f, "{breach}"),
+        }
+    }
+}
+
+impl Error for TreeFault {}

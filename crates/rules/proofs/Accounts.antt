@@ -42,7 +42,7 @@ module _ (k : ℕ) (p : Plan) (m : has k (numbers (users p.tree)) ≡ true) wher
       (note k (suc i) RootFail 0 (pos 0) v.bank v.lines refl refl even)
 
   closed_kept : (c : Bool) (o : Sitting) (s : State) (w : World) → c ≡ false → on w k ≡ false → Even k w → KeptUp k (closed_with c w o s).1
-  closed_kept true o s w e h i = let z : ◌≡◌ {A = ℕ} 0 1 = cc in absurd (omega arith)
+  closed_kept true o s w e h i = absurd cc
   closed_kept false o s w e h i =
       at_shut (root_noted o.ticks RootClosed w) s.length h (note k o.ticks RootClosed 0 (pos 0) w.bank w.lines refl refl i)
 

@@ -1,5 +1,6 @@
 -- The leaves of a sitting obey the front's law, and keep a skill's starts and ends in balance.
-use Rattle.std.proofs.Common.{◌≡◌, ℕ, ◌+◌, ◌<◌, Bool, true, false, ◌&&◌, eqb, List, [], ◌∷◌, length, set, ℤ, pos, refl, ap, ◌∙◌, subst, arith, eqb-true}
+use Rattle.std.proofs.Common.{◌≡◌, ℕ, ◌+◌, ◌<◌, Bool, true, false, eqb, List, length, set, ℤ, pos, sym, refl, ◌∙◌, arith, eqb-true, cond}
+use Rattle.std.proofs.lemmas.List.Sums.{sum_by_push}
 use Rattle.bank.specs.Skills.{Skill, runs_now}
 use Rattle.mission.specs.Trees.{Leaf, skill, count, ability}
 use Rattle.rules.specs.declared.line.Line.{Line}
@@ -8,7 +9,6 @@ use Rattle.rules.specs.declared.word.Word.{Word}
 use Rattle.rules.specs.declared.word.Word.TheVariants.{Start as StartWord, Run as RunWord, Pass as PassWord, Fail as FailWord, Halt as HaltWord, Blocked as BlockedWord, Full as FullWord}
 use Rattle.rules.specs.Leaves.{World, Users, runs_in, visit_leaf, stop_leaf, in_tick}
 use Rattle.rules.specs.Lines.{number, line, then_line, one, tells, told, starts, ends}
-use Rattle.rules.specs.Sittings.{pick}
 use Rattle.rules.specs.Statuses.{is_run}
 use Rattle.rules.proofs.Deeds.{Does, beyond, blocks, runs, fails, passes, overflows, Stops, is_idle, halts, runs_own, runs_else, visit_does, stop_does, apart}
 use Rattle.rules.proofs.Deeds as deeds
@@ -68,14 +68,7 @@ obeyed us t =
 -- one more line
 
 told_then : (v k : ℕ) (ls : List Line) (l : Line) → told v k (then_line ls l) ≡ told v k ls + one (tells v k l)
-told_then v k [] l = omega arith
-told_then v k (x ∷ ls) l = let h = told_then v k ls l in omega arith
-
-one_and : (a b : Bool) → one (a && b) ≡ pick b (one a) 0
-one_and true true = refl
-one_and true false = refl
-one_and false true = refl
-one_and false false = refl
+told_then v k ls l = sum_by_push (λ l. one (tells v k l)) ls l
 
 abbrev begins : Word → ℕ
 begins v = one (eqb (number v) 0)
@@ -83,24 +76,16 @@ begins v = one (eqb (number v) 0)
 abbrev finishes : Word → ℕ
 finishes v = one (eqb (number v) 2) + one (eqb (number v) 3) + one (eqb (number v) 4)
 
-starts_then : (j t : ℕ) (v : Word) (k : ℕ) (m : ℤ) (ls : List Line) → starts j (then_line ls (line t v k m)) ≡ starts j ls + pick (eqb k j) (begins v) 0
-starts_then j t v k m ls = told_then 0 j ls (line t v k m) ∙ ap (λ (n : ℕ). starts j ls + n) (one_and (eqb (number v) 0) (eqb k j))
+starts_then : (j t : ℕ) (v : Word) (k : ℕ) (m : ℤ) (ls : List Line) → starts j (then_line ls (line t v k m)) ≡ starts j ls + cond (eqb k j) (begins v) 0
+starts_then j t v k m ls = let s = told_then 0 j ls (line t v k m) in grind arith
 
-pick_sum : (b : Bool) (x y z : ℕ) → pick b x 0 + pick b y 0 + pick b z 0 ≡ pick b (x + y + z) 0
-pick_sum true x y z = refl
-pick_sum false x y z = refl
-
-ends_then : (j t : ℕ) (v : Word) (k : ℕ) (m : ℤ) (ls : List Line) → ends j (then_line ls (line t v k m)) ≡ ends j ls + pick (eqb k j) (finishes v) 0
+ends_then : (j t : ℕ) (v : Word) (k : ℕ) (m : ℤ) (ls : List Line) → ends j (then_line ls (line t v k m)) ≡ ends j ls + cond (eqb k j) (finishes v) 0
 ends_then j t v k m ls =
     let l = line t v k m in
     let p = told_then 2 j ls l in
     let f = told_then 3 j ls l in
     let h = told_then 4 j ls l in
-    let p' = one_and (eqb (number v) 2) (eqb k j) in
-    let f' = one_and (eqb (number v) 3) (eqb k j) in
-    let h' = one_and (eqb (number v) 4) (eqb k j) in
-    let s = pick_sum (eqb k j) (one (eqb (number v) 2)) (one (eqb (number v) 3)) (one (eqb (number v) 4)) in
-    omega arith
+    grind arith
 
 -- the balance of skill j
 
@@ -114,17 +99,13 @@ turn j t v k m s b ls h i bal = go (eqb k j) refl
     go : (e : Bool) → eqb k j ≡ e → Balanced j (set b k s) (then_line ls (line t v k m))
     go true e =
         let q = eqb-true k j e in
-        let o : runs_in (set b k s) j ≡ runs_now s = subst (λ (z : ℕ). runs_in (set b k s) z ≡ runs_now s) q (runs_own b k s h) in
-        let c : begins v + one (runs_in b j) ≡ finishes v + one (runs_now s) = subst (λ (z : ℕ). begins v + one (runs_in b z) ≡ finishes v + one (runs_now s)) q i in
+        let o : runs_in (set b k s) j ≡ runs_now s = rw (sym q) (runs_own b k s h) in
+        let c : begins v + one (runs_in b j) ≡ finishes v + one (runs_now s) = rw (sym q) i in
         rw (starts_then j t v k m ls, ends_then j t v k m ls, e, o) (omega arith)
     go false e = rw (starts_then j t v k m ls, ends_then j t v k m ls, e, runs_else b k j s (apart k j e)) (omega arith)
 
 pub note : (j t : ℕ) (v : Word) (k : ℕ) (m : ℤ) (b : List Skill) (ls : List Line) → begins v ≡ 0 → finishes v ≡ 0 → Balanced j b ls → Balanced j b (then_line ls (line t v k m))
-note j t v k m b ls p q bal = rw (starts_then j t v k m ls, ends_then j t v k m ls) (go (eqb k j))
-  where
-    go : (e : Bool) → starts j ls + pick e (begins v) 0 ≡ (ends j ls + pick e (finishes v) 0) + one (runs_in b j)
-    go true = omega arith
-    go false = omega arith
+note j t v k m b ls p q bal = let s = starts_then j t v k m ls in let e = ends_then j t v k m ls in grind arith
 
 does_balanced : (j t k : ℕ) {b b' : List Skill} {ls ls' : List Line} {a : Status} → Does t k b ls a b' ls' → Balanced j b ls → Balanced j b' ls'
 does_balanced j t k (beyond b ls o) bal = bal

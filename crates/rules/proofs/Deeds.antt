@@ -1,10 +1,11 @@
 -- What a visit and a stop of a skill leaf do to the bank and the lines, case by case.
-use Rattle.std.proofs.Common.{◌≡◌, ℕ, ◌+◌, ◌<◌, Bool, true, false, cond, eqb, ltb, List, length, set, ℤ, pos, is_some, Some, None, Ok, Option, sym, refl, ap, ◌∙◌, subst, arith, ltb-false, ltb-true, ne_eqb}
-use borrow.Author.Tests.{eqb-false}
+use Rattle.std.proofs.Common.{◌≡◌, ℕ, ◌+◌, ◌<◌, Bool, true, false, cond, eqb, ltb, List, length, set, ℤ, pos, is_some, Some, None, Ok, Option, sym, refl, ap, ◌∙◌, subst, arith, ltb-false, ltb-true}
+use Rattle.std.proofs.lemmas.Bool.{eqb-false}
+use Rattle.std.proofs.lemmas.Bool.Decides.{nat_tests}
 use Rattle.std.proofs.lemmas.List.{get_or-set_same, get_or-set_other, get_or_past, length-set}
 use Rattle.entry.specs.declared.parts.Ability.{Ability}
-use Rattle.entry.specs.declared.parts.Count.{Count}
-use Rattle.entry.specs.declared.parts.Mark.{Mark}
+use Rattle.entry.specs.Kinds.{Count}
+use Rattle.entry.specs.Kinds.{Mark}
 use Rattle.bank.specs.Skills.{Take, Skill, no_skill, runs_now, with_given, started, struck, polled, poll_reply}
 use Rattle.bank.specs.declared.kinds.Ending.{Ending}
 use Rattle.bank.specs.declared.kinds.Ending.TheVariants.{Fail as EndFail, Pass as EndPass}
@@ -53,7 +54,7 @@ runs_else l k j s e = ap runs_now (get_or-set_other l k j s no_skill (eqb-false 
 
 running_within : (b : Bool) (l : List Skill) (k : ℕ) → ltb k (length l) ≡ b → runs_in l k ≡ true → k < length l
 running_within true l k e h = ltb-true k (length l) e
-running_within false l k e h = let q = sym (beyond_off l k e) ∙ h in let z : ◌≡◌ {A = ℕ} 0 1 = cc in absurd (omega arith)
+running_within false l k e h = let q = sym (beyond_off l k e) ∙ h in absurd cc
 
 -- a poll
 
@@ -105,7 +106,7 @@ start_does false t k target w h o =
     let s = started (skill_at w k) in
     let v = start_skill t k w in
     let same : skill_at v k ≡ s = get_or-set_same w.bank k s no_skill h in
-    let long : k < length v.bank = subst (λ (n : ℕ). k < n) (sym (length-set w.bank k s)) h in
+    let long : k < length v.bank = rw (length-set w.bank k s) h in
     starts w.bank w.lines s h o refl (poll_does (skill_at v k) 0 (ap (λ (q : Skill). q.given) same) t k target v long (ap runs_now same))
 
 act_does : (g : Option ℕ) (us : Users) (t k : ℕ) (device : Option ℕ) (target : Target) (w : World) → (skill_at w k).given ≡ g → k < length w.bank →
@@ -134,4 +135,4 @@ pub stop_does : (t k : ℕ) (device : Option ℕ) (target : Target) (w : World) 
 stop_does t k device target w = stop_given (skill_at w k).given t k w refl
 
 pub apart : (j k : ℕ) → eqb j k ≡ false → eqb k j ≡ false
-apart j k e = ne_eqb k j (λ q. eqb-false j k e (sym q))
+apart j k e = grind (arith, nat_tests)

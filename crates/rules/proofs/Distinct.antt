@@ -1,5 +1,5 @@
 -- A lawful mission names each skill at most once.
-use Rattle.std.proofs.Common.{◌≡◌, ℕ, zero, suc, ◌+◌, ◌<◌, ◌≤◌, Bool, true, false, eqb, List, [], ◌∷◌, ◌++◌, length, Some, None, Option, sym, refl, ap, ◌∙◌, subst, arith, eqb-true}
+use Rattle.std.proofs.Common.{◌≡◌, ℕ, suc, ◌+◌, ◌<◌, ◌≤◌, Bool, true, false, eqb, List, [], ◌∷◌, ◌++◌, length, Some, None, Option, sym, refl, ap, ◌∙◌, arith, eqb-true}
 use Rattle.mission.specs.declared.breach.Breach.TheVariants.{Twice}
 use Rattle.mission.specs.declared.mission.Mission.{Mission}
 use Rattle.mission.specs.declared.node.Node.{Node}
@@ -55,7 +55,7 @@ abbrev NamesAt : ℕ → List Node → ℕ → Type 0
 NamesAt k ns i = (i < length ns) × (skill_of (node_at ns i) ≡ Some k)
 
 its_skill : (k : ℕ) (o : Option ℕ) → is_skill k o ≡ true → o ≡ Some k
-its_skill k None e = let z : ◌≡◌ {A = ℕ} 0 1 = cc in absurd (omega arith)
+its_skill k None e = absurd cc
 its_skill k (Some j) e = ap Some (eqb-true j k e)
 
 one_place : (k : ℕ) (ns : List Node) → 1 ≤ naming k ns → (i : ℕ) × NamesAt k ns i
@@ -84,11 +84,6 @@ never_twice m law k h =
     let q = two_places k m.nodes h in
     law Twice q.1 q.4.0 (q.0, k, q.2, q.3.1, q.4.1)
 
-at_most_once : (n : ℕ) → (2 ≤ n → ⊥) → n ≤ 1
-at_most_once zero h = omega arith
-at_most_once (suc zero) h = omega arith
-at_most_once (suc (suc n)) h = absurd (h (omega arith))
-
 -- the tree of a mission
 pub meant : (m : Mission) → Means (meaning m).nodes
 meant m =
@@ -104,5 +99,6 @@ pub once : (m : Mission) (k : ℕ) → names (plan m).tree k ≤ 1
 once m k =
     let t = (meant m).tree in
     let e : naming k (meaning m).nodes ≡ names t k = ap (naming k) (sym (meant m).written) ∙ tree_naming k t in
-    let q : names t k ≤ 1 = at_most_once (names t k) (λ h. never_twice (meaning m) m.lawful k (subst (λ (n : ℕ). 2 ≤ n) (sym e) h)) in
-    subst (λ (u : Tree). names u k ≤ 1) (sym (planted m)) q
+    let twice : 2 ≤ names t k → ⊥ = λ h. never_twice (meaning m) m.lawful k (rw e h) in
+    let q : names t k ≤ 1 = omega arith in
+    rw (planted m) q

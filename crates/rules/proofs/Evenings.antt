@@ -1,10 +1,9 @@
 -- The sample evenings hold, and the variants differ.
 use Rattle.std.proofs.Common.{◌≡◌, ℕ, List, length, get_or, sym, refl, ap, ◌∙◌, arith}
 use Rattle.entry.specs.Abilities.{ability_makes, ability_in}
-use Rattle.entry.specs.Counts.{count_in}
+use Rattle.entry.specs.Kinds.{whole_in}
 use Rattle.rules.specs.declared.line.Line.{Line}
 use Rattle.rules.specs.declared.word.Word.TheVariants.{RootRun}
-use Rattle.rules.specs.Leaves.{mark_in}
 use Rattle.rules.specs.Lines.{root_line}
 use Rattle.rules.specs.Others.{Executive, KeepsTheRules, FailsEachTick, RepeatsTheFirstTick, RuledOut}
 use Rattle.rules.specs.Samples.{begins, first_evening, EveningsHold}
@@ -12,7 +11,7 @@ use Rattle.rules.specs.Sittings.{State, Answer, opened, answered, halted, closed
 use Rattle.rules.specs.Statuses.{number}
 
 pub evenings_hold : EveningsHold
-unfolding ability_makes ability_in count_in mark_in
+unfolding ability_makes ability_in whole_in
 evenings_hold = refl
 
 abbrev status_of : Answer → ℕ
@@ -39,10 +38,7 @@ no_repeating e f r =
     let z : ◌≡◌ {A = ℕ} 1 0 = ap status_of (sym second ∙ f evening ∙ ap (λ p. p.0) first) in
     omega arith
 
--- the word of the line after so many
-abbrev word_at : ℕ → List Line → ℕ
-word_at i ls = (get_or ls i (root_line 0 RootRun)).word
-
+-- the skill of the line after so many
 abbrev skill_at : ℕ → List Line → ℕ
 skill_at i ls = (get_or ls i (root_line 0 RootRun)).skill
 

@@ -1,6 +1,8 @@
 -- After a visit a skill that stands at one place runs exactly if it is on the front; after a halt it does
 -- not run.
-use Rattle.std.proofs.Common.{◌≡◌, ℕ, suc, Bool, true, false, ◌||◌, eqb, ltb, List, [], ◌∷◌, ◌++◌, Option, sym, refl, ap, ◌∙◌, subst, arith, eqb-true}
+use Rattle.std.proofs.Common.{◌≡◌, ℕ, suc, Bool, true, false, ◌||◌, eqb, ltb, List, [], ◌∷◌, ◌++◌, Option, sym, refl, ap, ◌∙◌, eqb-true}
+use Rattle.std.proofs.Math.Bool.{or-false}
+use Rattle.std.proofs.lemmas.List.Folds.{list_any-append}
 use Rattle.mission.specs.declared.node.Target.{Target}
 use Rattle.mission.specs.Trees.{Leaf, skill, count, ability}
 use Rattle.rules.specs.declared.status.Status.{Status}
@@ -20,14 +22,6 @@ pub record Obeyed (A : Actions) (on : A.World → ℕ → Bool) : Type 0 where
   pub other : (k : ℕ) (l : Leaf) → Other k l → (w : A.World) → on (A.visit_leaf l w).1 k ≡ on w k
   pub stop_own : (k : ℕ) (d : Option ℕ) (t : Target) (w : A.World) → on (A.stop_leaf (skill k d t) w) k ≡ false
   pub stop_other : (k : ℕ) (l : Leaf) → Other k l → (w : A.World) → on (A.stop_leaf l w) k ≡ on w k
-
-or_assoc : (b c d : Bool) → b || (c || d) ≡ (b || c) || d
-or_assoc true c d = refl
-or_assoc false c d = refl
-
-pub has_append : (k : ℕ) (f g : List ℕ) → has k (f ++ g) ≡ has k f || has k g
-has_append k [] g = refl
-has_append k (j ∷ f) g = ap (λ (b : Bool). eqb j k || b) (has_append k f g) ∙ or_assoc (eqb j k) (has k f) (has k g)
 
 -- a place that must be quiet is
 abbrev pub Quiet : Bool → Bool → Type 0
@@ -63,7 +57,7 @@ module _ (W : Type 0) (on : W → ℕ → Bool) (k : ℕ) where
   next_untouched : (c : Bool) (b : Bool) (p : Polarity) (m : Bool) (a : Status) (w : W) (f : List ℕ) {x : Live} (K : W → Visit W Kids) (H : W → W) {ks : Kids} →
       on w k ≡ c → has k f ≡ false → Absent k x → ((w : W) → UntouchedIn (on w k) (K w)) → ((w : W) → on (H w) k ≡ on w k) → AbsentIn k ks →
       UntouchedIn c (go_on_or_stop b p m a w f x K H ks)
-  next_untouched c true p m a w f K H e i h hK hH n = front_untouched c (behind p m) h (subst (λ (c : Bool). UntouchedIn c (K w)) e (hK w))
+  next_untouched c true p m a w f K H e i h hK hH n = front_untouched c (behind p m) h (rw (sym e) (hK w))
   next_untouched c false p m a w f K H e i h hK hH n = untouched_in a (H w) f (hH w ∙ e) i (absent_kid pending h (later_absent m n))
 
   step_untouched : (c : Bool) (p : Polarity) (m : Bool) {o : Visit W Live} (K : W → Visit W Kids) (H : W → W) {ks : Kids} →
@@ -76,13 +70,13 @@ module _ (W : Type 0) (on : W → ℕ → Bool) (k : ℕ) where
   group_end_untouched c p m (untouched_in Fail w f e i n) = untouched Fail w [] e refl (absent_group p m (forget_absent n))
 
   has_none : (f g : List ℕ) → has k f ≡ false → has k g ≡ false → has k (f ++ g) ≡ false
-  has_none f g h i = rw (has_append k f g, h, i) refl
+  has_none f g h i = rw (list_any-append (λ j. eqb j k) f g, h, i) refl
 
   beside_untouched : (c : Bool) (r : Kept) (f : List ℕ) {x : Live} {o : Visit W Kids} → has k f ≡ false → Absent k x → UntouchedIn c o → UntouchedIn c (beside r f x o)
   beside_untouched c r f i h (untouched_in a w g e l n) = untouched_in a w (f ++ g) e (has_none f g i l) (absent_kid r h n)
 
   par_step_untouched : (c : Bool) {o : Visit W Live} (K : W → Visit W Kids) → Untouched c o → ((w : W) → UntouchedIn (on w k) (K w)) → UntouchedIn c (par_step o K)
-  par_step_untouched c K (untouched a w f e i h) hK = beside_untouched c (kept_as a) f i h (subst (λ (c : Bool). UntouchedIn c (K w)) e (hK w))
+  par_step_untouched c K (untouched a w f e i h) hK = beside_untouched c (kept_as a) f i h (rw (sym e) (hK w))
 
   par_end_untouched : (c : Bool) (need : ℕ) (a : Status) (w : W) (H : W → W) (f : List ℕ) {ks : Kids} →
       on w k ≡ c → has k f ≡ false → AbsentIn k ks → on (H w) k ≡ on w k → Untouched c (par_end need a w H f ks)
@@ -157,20 +151,16 @@ module _ (W : Type 0) (on : W → ℕ → Bool) (k : ℕ) where
   group_end_told p m (group_pass w f s e) = let t = forget_stands s.1 in told_pass w (t.0, at_group p m t.0 t.1) e
   group_end_told p m (group_fail w f s e) = let t = forget_stands s.1 in told_fail w (t.0, at_group p m t.0 t.1) e
 
-  or_false : (b : Bool) → b || false ≡ b
-  or_false true = refl
-  or_false false = refl
-
   beside_here : (c : Bool) (f : List ℕ) (b : Bool) {x : Live} {o : Visit W Kids} → Stands k b x → c ≡ has k f → Quiet b c → UntouchedIn c o → ToldPar (beside pending f x o)
   beside_here c f b h e d (untouched_in a w g i l n) =
-      told_par a w (f ++ g) b (par_here b h n) (i ∙ e ∙ sym (or_false (has k f)) ∙ sym (ap (λ (z : Bool). has k f || z) l) ∙ sym (has_append k f g)) (λ z. i ∙ d z)
+      told_par a w (f ++ g) b (par_here b h n) (i ∙ e ∙ sym (or-false (has k f)) ∙ sym (ap (λ (z : Bool). has k f || z) l) ∙ sym (list_any-append (λ j. eqb j k) f g)) (λ z. i ∙ d z)
 
   beside_kept : (c : Bool) (r : Bool) (b : Bool) {x : Live} {o : Visit W Kids} → Stands k b x → c ≡ false → UntouchedIn c o → ToldPar (beside (ended r) [] x o)
   beside_kept c r b h e (untouched_in a w g i l n) = told_par a w g false (par_kept r b h n) (i ∙ e ∙ sym l) (λ z. i ∙ e)
 
   beside_there : (r : Kept) (f : List ℕ) {x : Live} {o : Visit W Kids} → has k f ≡ false → Absent k x → ToldPar o → ToldPar (beside r f x o)
   beside_there r f i h (told_par a w g b l e d) =
-      told_par a w (f ++ g) b (par_there r b h l) (e ∙ sym (has_append k f g ∙ ap (λ (z : Bool). z || has k g) i)) d
+      told_par a w (f ++ g) b (par_there r b h l) (e ∙ sym (list_any-append (λ j. eqb j k) f g ∙ ap (λ (z : Bool). z || has k g) i)) d
 
   par_step_here : {o : Visit W Live} (K : W → Visit W Kids) → Told o → ((w : W) → UntouchedIn (on w k) (K w)) → ToldPar (par_step o K)
   par_step_here K (told_run w f b h e d) hK = beside_here (on w k) f b h e d (hK w)
@@ -204,14 +194,11 @@ module _ (W : Type 0) (on : W → ℕ → Bool) (k : ℕ) where
   loop_end_told on_fail times n (told_pass w s e) = told_pass w (s.0, at_loop on_fail times 0 s.0 s.1) e
   loop_end_told on_fail times n (told_fail w s e) = count_told (ltb (suc n) times) on_fail times n w s e
 
-  true_or : (b c : Bool) → b ≡ true → true ≡ b || c
-  true_or b c e = rw e refl
-
   may_run : (c : Bool) → Quiet true c
-  may_run c e = let z : ◌≡◌ {A = ℕ} 0 1 = cc in absurd (omega arith)
+  may_run c e = absurd cc
 
   leaf_told : (j : ℕ) (d : Option ℕ) (t : Target) (a : Status) (w : W) → eqb j k ≡ true → on w k ≡ is_run a → Told (leaf_visit (skill j d t) (a, w))
-  leaf_told j d t Run w i e = told_run w (j ∷ []) true (at_leaf j d t i) (e ∙ true_or (eqb j k) false i) (may_run (on w k))
+  leaf_told j d t Run w i e = told_run w (j ∷ []) true (at_leaf j d t i) (rw i e) (may_run (on w k))
   leaf_told j d t Pass w i e = told_pass w (true, at_leaf j d t i) e
   leaf_told j d t Fail w i e = told_fail w (true, at_leaf j d t i) e
 

@@ -21,12 +21,7 @@ later_all_not true ks = refl
 later_all_not false ks = cleared_all_not ks
 
 moves_exchanged : (p : Polarity) (a : Status) → moves_on (opposite p) (exchanged a) ≡ moves_on p a
-moves_exchanged on_pass Run = refl
-moves_exchanged on_pass Pass = refl
-moves_exchanged on_pass Fail = refl
-moves_exchanged on_fail Run = refl
-moves_exchanged on_fail Pass = refl
-moves_exchanged on_fail Fail = refl
+moves_exchanged p a = grind arith
 
 behind_swapped : (p : Polarity) (m : Bool) → behind (opposite p) m ≡ swapped (behind p m)
 behind_swapped on_pass true = refl
@@ -124,9 +119,7 @@ after_par_all_not (kid pending x ks) = ap (kid pending (live_not (cleared x))) (
 after_par_all_not (kid (ended b) x ks) = ap (kid pending (live_not x)) (after_par_all_not ks)
 
 at_most_one : (r : Kept) → one (is_pass r) + one (is_fail r) ≤ 1
-at_most_one pending = omega arith
-at_most_one (ended true) = omega arith
-at_most_one (ended false) = omega arith
+at_most_one r = grind arith
 
 pub results_within : (ks : Kids) → passes ks + fails ks ≤ size ks
 results_within no_kids = omega arith

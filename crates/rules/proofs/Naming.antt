@@ -1,12 +1,14 @@
 -- The named skills of a tree: regrouping keeps them, their order and their devices.
-use Rattle.std.proofs.Common.{◌≡◌, ℕ, zero, suc, ◌+◌, ◌≤◌, Bool, true, false, ◌||◌, eqb, List, [], ◌∷◌, map, Option, sym, refl, ap, ◌∙◌, subst, arith, ne_eqb, eqb-true}
+use Rattle.std.proofs.Common.{◌≡◌, ℕ, ◌+◌, ◌≤◌, Bool, true, false, ◌&&◌, eqb, List, [], map, Option, sym, refl, ap, ◌∙◌, arith, eqb-true}
+use Rattle.std.proofs.lemmas.Bool.{or_parts}
+use Rattle.std.proofs.lemmas.Map.Views.{any-filter_same}
+use Rattle.std.proofs.Math.Bool.{or-true, and-true}
 use Rattle.bank.specs.Skills.{Skill}
 use Rattle.mission.specs.Trees.{Leaf, skill, count, ability, Tree, leaf, group, par, neg, again, Trees, nil, cons}
 use Rattle.rules.specs.Leaves.{Users, runs_in, user_of, users_of, users_of_all, users}
-use Rattle.rules.specs.Lines.{one}
 use Rattle.rules.specs.Missions.{leaf_names, names, names_all}
 use Rattle.rules.specs.Regrouping.{negated, followed_by, Step, StepIn, Chain, done, step, step_back}
-use Rattle.rules.specs.Sittings.{has, any_runs, pick, named_on}
+use Rattle.rules.specs.Sittings.{has, any_runs, named_on}
 
 users_followed : (ts us : Trees) (es : Users) → users_of_all (followed_by ts us) es ≡ users_of_all ts (users_of_all us es)
 users_followed nil us es = refl
@@ -47,26 +49,17 @@ chain_users (step_back s c) = sym (same_users s) ∙ chain_users c
 abbrev pub numbers : Users → List ℕ
 numbers us = map (λ (u : ℕ × Option ℕ). u.0) us
 
-one_pos : (b : Bool) → 1 ≤ one b → b ≡ true
-one_pos true h = refl
-one_pos false h = absurd (omega arith)
-
-or_true : (b : Bool) → b || true ≡ true
-or_true true = refl
-or_true false = refl
-
 -- a named skill is among them
 abbrev Among : ℕ → ℕ → Users → Users → Type 0
 Among k n es ds = (has k (numbers es) ≡ true → has k (numbers ds) ≡ true) × (1 ≤ n → has k (numbers ds) ≡ true)
 
 among_leaf : (k : ℕ) (l : Leaf) (es : Users) → Among k (leaf_names k l) es (user_of l es)
-among_leaf k (skill j d t) es = ((λ h. rw h (or_true (eqb j k))), (λ h. rw (one_pos (eqb j k) h) refl))
+among_leaf k (skill j d t) es = ((λ h. rw h (or-true (eqb j k))), (λ h. grind arith))
 among_leaf k (count key least) es = ((λ h. h), (λ h. absurd (omega arith)))
 among_leaf k (ability key least) es = ((λ h. h), (λ h. absurd (omega arith)))
 
 among_sum : (q : Bool) (a b : ℕ) → (1 ≤ a → q ≡ true) → (1 ≤ b → q ≡ true) → 1 ≤ a + b → q ≡ true
-among_sum q zero b h i j = i (omega arith)
-among_sum q (suc a) b h i j = h (omega arith)
+among_sum q a b h i j = grind arith
 
 mutual
   among : (k : ℕ) (t : Tree) (es : Users) → Among k (names t k) es (users_of t es)
@@ -88,23 +81,18 @@ named k t h = (among k t []).1 h
 
 -- where no named skill runs, a given one does not
 
-or_false : (b c : Bool) → b || c ≡ false → (b ≡ false) × (c ≡ false)
-or_false true c h = let z : ◌≡◌ {A = ℕ} 0 1 = cc in absurd (omega arith)
-or_false false c h = (refl, h)
-
 abbrev Idle : List Skill → ℕ → ℕ → Type 0
 Idle l k n = 1 ≤ n → runs_in l k ≡ false
 
 idle_leaf : (l : List Skill) (k : ℕ) (f : Leaf) (es : Users) → any_runs (user_of f es) l ≡ false → (any_runs es l ≡ false) × Idle l k (leaf_names k f)
 idle_leaf l k (skill j d t) es h =
-    let q = or_false (runs_in l j) (any_runs es l) h in
-    (q.1, λ i. subst (λ (z : ℕ). runs_in l z ≡ false) (eqb-true j k (one_pos (eqb j k) i)) q.0)
+    let q = or_parts (runs_in l j) (any_runs es l) h in
+    (q.1, λ i. rw (sym (eqb-true j k (grind arith))) q.0)
 idle_leaf l k (count key least) es h = (h, λ z. absurd (omega arith))
 idle_leaf l k (ability key least) es h = (h, λ z. absurd (omega arith))
 
 idle_sum : (l : List Skill) (k a b : ℕ) → Idle l k a → Idle l k b → Idle l k (a + b)
-idle_sum l k zero b h i j = i (omega arith)
-idle_sum l k (suc a) b h i j = h (omega arith)
+idle_sum l k a b h i j = grind arith
 
 mutual
   idle : (l : List Skill) (k : ℕ) (t : Tree) (es : Users) → any_runs (users_of t es) l ≡ false → (any_runs es l ≡ false) × Idle l k (names t k)
@@ -126,32 +114,8 @@ named_idle l k t h i = (idle l k t [] h).1 i
 
 -- a named skill is on a front exactly if it is among the named ones on it
 
-off_named : (us : Users) (f : List ℕ) (k : ℕ) → has k f ≡ false → has k (named_on us f) ≡ false
-off_named [] f k h = refl
-off_named (u ∷ us) f k h = go (off_named us f k h) (has u.0 f) refl
-  where
-    go : has k (named_on us f) ≡ false → (b : Bool) → has u.0 f ≡ b → has k (pick b (u.0 ∷ named_on us f) (named_on us f)) ≡ false
-    go r true q =
-        rw (ne_eqb u.0 k (λ z. let y : true ≡ false = sym q ∙ ap (λ n. has n f) z ∙ h in let x : ◌≡◌ {A = ℕ} 0 1 = cc in omega arith)) r
-    go r false q = r
-
-on_named : (us : Users) (f : List ℕ) (k : ℕ) → has k (numbers us) ≡ true → has k f ≡ true → has k (named_on us f) ≡ true
-on_named [] f k i h = i
-on_named (u ∷ us) f k i h = go (λ j. on_named us f k j h) (eqb u.0 k) refl (has u.0 f) refl
-  where
-    go : (has k (numbers us) ≡ true → has k (named_on us f) ≡ true) → (c : Bool) → eqb u.0 k ≡ c → (b : Bool) → has u.0 f ≡ b →
-        has k (pick b (u.0 ∷ named_on us f) (named_on us f)) ≡ true
-    go r true p true q = rw p refl
-    go r true p false q =
-        let y : true ≡ false = sym h ∙ ap (λ n. has n f) (sym (eqb-true u.0 k p)) ∙ q in
-        let x : ◌≡◌ {A = ℕ} 0 1 = cc in
-        absurd (omega arith)
-    go r false p true q = rw p (r (rw p at i))
-    go r false p false q = r (rw p at i)
-
 pub has_named_on : (us : Users) (f : List ℕ) (k : ℕ) → has k (numbers us) ≡ true → has k (named_on us f) ≡ has k f
-has_named_on us f k i = go (has k f) refl
-  where
-    go : (b : Bool) → has k f ≡ b → has k (named_on us f) ≡ has k f
-    go true h = on_named us f k i h ∙ sym h
-    go false h = off_named us f k h ∙ sym h
+has_named_on us f k i =
+    any-filter_same (λ j. eqb j k) (λ j. has j f) (has k f) (λ j e. ap (λ n. has n f) (eqb-true j k e)) (numbers us)
+    ∙ ap (λ b. has k f && b) i
+    ∙ and-true (has k f)

@@ -1,5 +1,5 @@
 -- Related live trees are visited alike, and the fresh trees of a step are related.
-use Rattle.std.proofs.Common.{◌≡◌, ℕ, suc, ◌+◌, ◌-◌, ◌≤◌, Bool, true, false, ltb, List, [], ◌++◌, refl, ap, subst, arith}
+use Rattle.std.proofs.Common.{◌≡◌, ℕ, suc, ◌+◌, ◌-◌, ◌≤◌, Bool, true, false, ltb, List, [], ◌++◌, refl, ap, sym, arith}
 use Rattle.mission.specs.declared.node.GroupKind.{GroupKind}
 use Rattle.mission.specs.declared.node.GroupKind.TheVariants.{Seq, Fall, Mseq, Mfall}
 use Rattle.mission.specs.declared.node.LoopKind.{LoopKind}
@@ -13,7 +13,7 @@ use Rattle.rules.specs.Regrouping.{mirror, mirror_loop, negated, followed_by, St
 use Rattle.rules.specs.Statuses.{exchanged}
 use Rattle.rules.specs.Visiting.{Visit, gives, moves_on, moved, kept_as, behind, later, in_front, go_on_or_stop, group_step, group_end, size, is_pass, is_fail, passes, fails, verdict, after_par, beside, par_step, par_end, not_end, count_or_end, loop_step, loop_end}
 use Rattle.rules.specs.Visiting.{Actions, halt_later, halt_pending, par_decided, visit, visit_group, visit_par}
-use Rattle.rules.proofs.Related.{opposite, all_not, joined, Cold, cold_here, cold_there, Related, RelatedIn, at_kid, past_kid, Same, same, cold_warm, clear_related, later_related, forget_related}
+use Rattle.rules.proofs.Related.{all_not, joined, Cold, cold_here, cold_there, Related, RelatedIn, at_kid, past_kid, Same, same, cold_warm, clear_related, later_related, forget_related}
 use Rattle.rules.proofs.Related as related
 use Rattle.rules.proofs.Halts.{later_halt_related, later_halt_none, pending_halt_related}
 use Rattle.rules.proofs.Splices.{end_alike, warm_visit}
@@ -161,9 +161,7 @@ size_fresh (cons t ts) = ap suc (size_fresh ts)
 fresh_spliced : (kind : GroupKind) (ts us vs : Trees) →
     Cold (goes_on kind) (remembers kind) (fresh_kids (followed_by ts (cons (group kind us) vs))) (fresh_kids (followed_by ts (followed_by us vs)))
 fresh_spliced kind nil us vs =
-    rw (fresh_followed us vs)
-    (subst (λ (k : Kids). Cold (goes_on kind) (remembers kind) (kid pending (live_group (goes_on kind) (remembers kind) k) (fresh_kids vs)) (joined k (fresh_kids vs)))
-    (fresh_forgotten us) (cold_here (fresh_kids us) (fresh_kids vs)))
+    rw (fresh_followed us vs, sym (fresh_forgotten us)) (cold_here (fresh_kids us) (fresh_kids vs))
 fresh_spliced kind (cons t ts) us vs = cold_there (fresh t) (fresh_spliced kind ts us vs)
 
 mirror_need : (n N : ℕ) → 1 ≤ n → n ≤ N → n + ((N - n) + 1) ≡ suc N

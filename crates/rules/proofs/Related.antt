@@ -1,5 +1,5 @@
 -- One step of regrouping between live trees, and what clearing and forgetting make of it.
-use Rattle.std.proofs.Common.{◌≡◌, ℕ, suc, ◌+◌, ◌≤◌, Bool, true, false, not, List, refl, ap, subst}
+use Rattle.std.proofs.Common.{◌≡◌, ℕ, suc, ◌+◌, ◌≤◌, Bool, true, false, not, List, sym, refl, ap}
 use Rattle.rules.specs.declared.status.Status.{Status}
 use Rattle.rules.specs.Live.{Polarity, on_pass, on_fail, Kept, pending, ended, Live, live_group, live_par, live_not, live_loop, Kids, no_kids, kid, cleared, cleared_kids, forgotten}
 use Rattle.rules.specs.Visiting.{Visit, gives, behind, later, size}
@@ -88,8 +88,7 @@ forgotten_cleared no_kids = refl
 forgotten_cleared (kid r x ks) = ap (kid pending (cleared x)) (forgotten_cleared ks)
 
 cold_cleared : (p : Polarity) (m : Bool) (ys zs : Kids) → Cold p m (kid pending (live_group p m (cleared_kids ys)) zs) (joined (cleared_kids ys) zs)
-cold_cleared p m ys zs =
-    subst (λ (k : Kids). Cold p m (kid pending (live_group p m k) zs) (joined k zs)) (forgotten_cleared ys) (cold_here (cleared_kids ys) zs)
+cold_cleared p m ys zs = rw (sym (forgotten_cleared ys)) (cold_here (cleared_kids ys) zs)
 
 pub clear_cold : (p : Polarity) (m : Bool) {ks ls : Kids} → Cold p m ks ls → Cold p m (cleared_kids ks) (cleared_kids ls)
 clear_cold p m (cold_here ys zs) = rw (cleared_joined (forgotten ys) zs, cleared_forgotten ys) (cold_cleared p m ys (cleared_kids zs))

@@ -1,23 +1,22 @@
 -- A place in use always has enough free lines to be closed.
-use Rattle.std.proofs.Common.{◌≡◌, ℕ, suc, ◌+◌, ◌*◌, ◌≤◌, Bool, true, false, not, ◌||◌, eqb, ltb, List, [], ◌∷◌, length, Some, None, Option, sym, refl, ap, ◌∙◌, subst, arith, ltb-false, eqb-true}
-use Rattle.std.proofs.lemmas.List.{length-append}
+use Rattle.std.proofs.Common.{◌≡◌, ℕ, suc, ◌+◌, ◌*◌, ◌≤◌, Bool, true, false, eqb, ltb, List, [], length, Some, None, Option, refl, ap, ◌∙◌, subst, arith, ltb-false, eqb-true}
+use Rattle.std.proofs.lemmas.Bool.{or_parts, not-false}
+use Rattle.std.proofs.lemmas.List.{length_push}
 use Rattle.mission.specs.Trees.{Tree}
 use Rattle.rules.specs.declared.sitting_fault.SittingFault.{SittingFault}
-use Rattle.rules.specs.declared.sitting_fault.SittingFault.TheVariants.{PlaceOpen, SkillBeyond, SkillRuns, SkillsDiffer, BoardSmall, TraceLength, TraceFull}
-use Rattle.rules.specs.declared.line.Line.{Line}
 use Rattle.rules.specs.declared.word.Word.TheVariants.{RootHalt, RootClosed}
 use Rattle.rules.specs.Leaves.{World, Users, in_tick, users}
-use Rattle.rules.specs.Lines.{root_line, root_word, then_line}
+use Rattle.rules.specs.Lines.{root_line, root_word}
 use Rattle.rules.specs.Live.{Live, fresh, cleared}
 use Rattle.rules.specs.Missions.{Plan, plan, skills, names}
 use Rattle.rules.specs.Rooms.{Reached, at_opening, after_call, disturbed, Roomy, ThereIsRoom}
-use Rattle.rules.specs.Sittings.{Sitting, Place, shut, held, State, Call, tick, halt_root, close, Answer, opened, any_beyond, any_runs, any_differs, too_small, is_open, tick_room, halt_room, free, other_length, opening_checks, tick_checks, halt_checks, close_checks, pick, first_of, unless, begun, opening, named_on, ticked, tick_on, all_halted, halted_with, halt_on, closed_with, close_on, called}
+use Rattle.rules.specs.Sittings.{Sitting, Place, shut, held, State, Call, tick, halt_root, close, Answer, opened, tick_room, halt_room, free, other_length, tick_checks, halt_checks, close_checks, first_of, unless, opening, named_on, ticked, tick_on, all_halted, halted_with, halt_on, closed_with, close_on, called}
 use Rattle.rules.specs.Visiting.{Visit, gives, visit}
 use Rattle.rules.proofs.Distinct.{once}
 use Rattle.rules.proofs.Shapes.{bare, bare_fresh, bare_cleared, Shaped, visit_shaped}
 use Rattle.rules.proofs.Spent.{Long, visit_lines, halt_lines}
 use Rattle.rules.proofs.Twins.{seated}
-use Rattle.rules.proofs.Wholes.{none_held, pick_none, accepted, last_checks}
+use Rattle.rules.proofs.Wholes.{none_hold, accepted, in_range}
 
 -- what holds of a place with so many lines written
 data Seat (p : Plan) : Place → ℕ → Type 0 where
@@ -27,49 +26,19 @@ data Seat (p : Plan) : Place → ℕ → Type 0 where
 abbrev Sits : Plan → State → Type 0
 Sits p s = Seat p s.place (length s.world.lines)
 
-length_then : (ls : List Line) (l : Line) → length (then_line ls l) ≡ length ls + 1
-length_then ls l = length-append ls (l ∷ [])
-
 -- what an answered call knows: the lines that it asked for are free
-
-or_false : (b c : Bool) → b || c ≡ false → (b ≡ false) × (c ≡ false)
-or_false true c h = let z : ◌≡◌ {A = ℕ} 0 1 = cc in absurd (omega arith)
-or_false false c h = (refl, h)
-
-not_false : (b : Bool) → not b ≡ false → b ≡ true
-not_false true h = refl
-not_false false h = let z : ◌≡◌ {A = ℕ} 0 1 = cc in absurd (omega arith)
 
 room_left : (us : Users) (o : Sitting) (s : State) (n : ℕ) → other_length o s ≡ false → ltb (free s) n ≡ false → 1 ≤ n → n + length s.world.lines ≤ o.length
 room_left us o s n e h some =
-    let q : s.length ≡ o.length = eqb-true s.length o.length (not_false (eqb s.length o.length) e) in
+    let q : s.length ≡ o.length = eqb-true s.length o.length (not-false (eqb s.length o.length) e) in
     let f = ltb-false (free s) n h in
     omega arith
 
-module _ (us : Users) (o : Sitting) (s : State) where
-  abbrev last_two : ℕ → Option SittingFault
-  last_two n = first_of ((other_length o s, TraceLength) ∷ (ltb (free s) n, TraceFull) ∷ [])
+tick_left : (us : Users) (o : Sitting) (s : State) → first_of (tick_checks us o s) ≡ None → tick_room us + length s.world.lines ≤ o.length
+tick_left us o s h = let q = none_hold (tick_checks us o s) h in room_left us o s (tick_room us) q.1.1.1.0 q.1.1.1.1.0 (omega arith)
 
-  two_left : (n : ℕ) → 1 ≤ n → last_two n ≡ None → n + length s.world.lines ≤ o.length
-  two_left n some h =
-      let a = pick_none (other_length o s) TraceLength (first_of ((ltb (free s) n, TraceFull) ∷ [])) h in
-      let b = pick_none (ltb (free s) n) TraceFull None a.1 in
-      room_left us o s n a.0 b.0 some
-
-  tick_left : first_of (tick_checks us o s) ≡ None → tick_room us + length s.world.lines ≤ o.length
-  tick_left h =
-      let last = last_two (tick_room us) in
-      let small = too_small o.mission s.world in
-      let differ = any_differs us s.world.bank o.front in
-      let a = pick_none (any_beyond us (length s.world.bank)) SkillBeyond (pick differ (Some SkillsDiffer) (pick small (Some BoardSmall) last)) h in
-      let b = pick_none differ SkillsDiffer (pick small (Some BoardSmall) last) a.1 in
-      let c = pick_none small BoardSmall last b.1 in
-      two_left (tick_room us) (omega arith) c.1
-
-  halt_left : first_of (halt_checks us o s) ≡ None → halt_room us + length s.world.lines ≤ o.length
-  halt_left h =
-      let a = pick_none (any_differs us s.world.bank o.front) SkillsDiffer (last_two (halt_room us)) h in
-      two_left (halt_room us) (omega arith) a.1
+halt_left : (us : Users) (o : Sitting) (s : State) → first_of (halt_checks us o s) ≡ None → halt_room us + length s.world.lines ≤ o.length
+halt_left us o s h = let q = none_hold (halt_checks us o s) h in room_left us o s (halt_room us) q.1.0 q.1.1.0 (omega arith)
 
 -- the state after a call, refused or answered, and its lines
 
@@ -91,7 +60,7 @@ module _ (p : Plan) (single : (k : ℕ) → names p.tree k ≤ 1) (x : Live) (n 
   s = record { place = held o; world = w; length = r }
 
   single_live : (k : ℕ) → names (bare x) k ≤ 1
-  single_live k = subst (λ (t : Tree). names t k ≤ 1) (sym b) (single k)
+  single_live k = rw b (single k)
 
   same_number : length (users (bare x)) ≡ skills p
   same_number = ap (λ (t : Tree). length (users t)) b
@@ -100,7 +69,7 @@ module _ (p : Plan) (single : (k : ℕ) → names p.tree k ≤ 1) (x : Live) (n 
       After p (3 * skills p + 1) s (ticked us o s v)
   ticked_after (gives a z g y) e l room =
       let c = same_number in
-      let d = length_then z.lines (root_line (suc i) (root_word a)) in
+      let d = length_push z.lines (root_line (suc i) (root_word a)) in
       (seat y n (suc i) q (named_on us g) _ (e ∙ b) (omega arith), omega arith)
 
   tick_after : Sits p s → After p (3 * skills p + 1) s (tick_on us o s)
@@ -118,14 +87,14 @@ module _ (p : Plan) (single : (k : ℕ) → names p.tree k ≤ 1) (x : Live) (n 
       (λ e.
       let room = halt_left us o s e in
       let l = halted_lines in
-      let d = length_then (all_halted us o s).lines (root_line i RootHalt) in
+      let d = length_push (all_halted us o s).lines (root_line i RootHalt) in
       (seat (cleared x) n i q [] _ (bare_cleared x ∙ b) (omega arith), omega arith))
 
   closed_after : (c : Bool) → After p (skills p + 1) s (closed_with c (all_halted us o s) o s)
   closed_after true = (no_seat _, omega arith)
   closed_after false =
       let l = halted_lines in
-      let d = length_then (all_halted us o s).lines (root_line i RootClosed) in
+      let d = length_push (all_halted us o s).lines (root_line i RootClosed) in
       (no_seat _, omega arith)
 
   close_after : Sits p s → (slip : ℕ) → After p (skills p + 1) s (close_on us o slip s)
@@ -157,26 +126,16 @@ module _ (p : Plan) (single : (k : ℕ) → names p.tree k ≤ 1) where
 
   opening_room : (n : ℕ) (s : State) → (opening p n s).0 ≡ opened n → tick_room (users p.tree) ≤ s.length
   opening_room n s h =
-      let us = users p.tree in
-      let lengths = ltb s.length (tick_room us) || ltb 65536 s.length in
-      let last = first_of (last_checks us p s) in
-      let running = any_runs us s.world.bank in
-      let far = any_beyond us (length s.world.bank) in
-      let a = pick_none (is_open s.place) PlaceOpen (pick far (Some SkillBeyond) (pick running (Some SkillRuns) last)) (none_held (first_of (opening_checks us p s)) n s (begun p n s) h) in
-      let b = pick_none far SkillBeyond (pick running (Some SkillRuns) last) a.1 in
-      let c = pick_none running SkillRuns last b.1 in
-      let d = pick_none (too_small p s.world) BoardSmall (pick lengths (Some TraceLength) None) c.1 in
-      let e = pick_none lengths TraceLength None d.1 in
-      let f = or_false (ltb s.length (tick_room us)) (ltb 65536 s.length) e.0 in
-      ltb-false s.length (tick_room us) f.0
+      let room = tick_room (users p.tree) in
+      ltb-false s.length room (or_parts (ltb s.length room) (ltb 65536 s.length) (in_range p n s h)).0
 
   reached_sits : {s : State} → Reached p s → Sits p s
   reached_sits (at_opening n s h) =
       let room = opening_room n s h in
-      subst (λ (v : Answer × State). Sits p v.1) (sym (accepted p n s h)) (seat (fresh p.tree) n 0 s.length [] 0 (bare_fresh p.tree) (omega arith))
+      rw (accepted p n s h) (seat (fresh p.tree) n 0 s.length [] 0 (bare_fresh p.tree) (omega arith))
   reached_sits (after_call c s r) = call_sits c s (reached_sits r)
   reached_sits (disturbed s z r e l) =
-      subst (λ (v : Place). Seat p v (length z.world.lines)) (sym e) (subst (λ (n : ℕ). Seat p s.place n) (sym l) (reached_sits r))
+      rw (e, l) (reached_sits r)
 
   abbrev RoomIn : Place → ℕ → Type 0
   RoomIn (held o) l = (skills p + 1) + l ≤ o.length

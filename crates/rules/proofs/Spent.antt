@@ -1,7 +1,9 @@
 -- How many lines a visit and a halt write: at most three of each named skill in a visit, and at most one
 -- in a halt.
-use Rattle.std.proofs.Common.{◌≡◌, ℕ, zero, suc, ◌+◌, ◌*◌, ◌<◌, ◌≤◌, Bool, true, false, eqb, List, [], ◌∷◌, length, set, ℤ, pos, sym, refl, ap, ◌∙◌, subst, add-zero, mul-le-mul_left, add-one, arith, eqb-true}
-use Rattle.std.proofs.lemmas.List.{length-set, length-append}
+use Rattle.std.proofs.Common.{◌≡◌, ℕ, zero, suc, ◌+◌, ◌*◌, ◌<◌, ◌≤◌, Bool, true, false, eqb, List, [], length, set, ℤ, pos, sym, refl, ◌∙◌, subst, add-zero, mul-le-mul_left, add-one, arith, eqb-true}
+use Rattle.std.proofs.lemmas.List.{length-set, length_push}
+use Rattle.std.proofs.lemmas.List.Sums.{sum_by_push}
+use Rattle.std.specs.List.{count_by}
 use Rattle.bank.specs.Skills.{Skill}
 use Rattle.mission.specs.Trees.{Leaf, skill, count, ability, Tree, leaf, group, par, neg, again, Trees, nil, cons}
 use Rattle.rules.specs.declared.line.Line.{Line}
@@ -18,17 +20,15 @@ use Rattle.rules.proofs.Deeds.{Does, beyond, blocks, runs, fails, passes, overfl
 use Rattle.rules.proofs.Deeds as deeds
 use Rattle.rules.proofs.Shapes.{bare}
 use Rattle.rules.proofs.Spending.{cost, cost_all, Within, visit_spends, halt_spends, Holds, visit_keeps, halt_keeps}
-use Rattle.rules.proofs.Sums.{sum_below, sum_le, sum_add, sum_times, one_le, at_most_one_hit, one_hit}
+use Rattle.rules.proofs.Sums.{sum_below, sum_le, sum_add, sum_times, at_most_one_hit, one_hit}
 
 -- the lines of skill k
 
 abbrev pub own : ℕ → List Line → ℕ
-own k [] = 0
-own k (l ∷ ls) = one (eqb l.skill k) + own k ls
+own k ls = count_by (λ l. eqb l.skill k) ls
 
 own_then : (k : ℕ) (ls : List Line) (l : Line) → own k (then_line ls l) ≡ own k ls + one (eqb l.skill k)
-own_then k [] l = omega arith
-own_then k (x ∷ ls) l = let h = own_then k ls l in omega arith
+own_then k ls l = sum_by_push (λ l. one (eqb l.skill k)) ls l
 
 abbrev all_own : ℕ → List Line → ℕ
 all_own n ls = sum_below (λ k. own k ls) n
@@ -37,53 +37,39 @@ sum_own_then : (n : ℕ) (ls : List Line) (l : Line) → all_own n (then_line ls
 sum_own_then zero ls l = refl
 sum_own_then (suc n) ls l = let h = sum_own_then n ls l in let i = own_then n ls l in omega arith
 
-length_then : (ls : List Line) (l : Line) → length (then_line ls l) ≡ length ls + 1
-length_then ls l = length-append ls (l ∷ [])
-
 -- of a skill that is visited
 
 running_does : (t k : ℕ) {b b' : List Skill} {ls ls' : List Line} {a : Status} → Does t k b ls a b' ls' → runs_in b k ≡ true → own k ls' + one (runs_in b' k) ≤ own k ls + 2
-running_does t k (beyond b ls o) h = let z = one_le (runs_in b k) in omega arith
-running_does t k (blocks b ls l o) h =
-    let e = own_then k ls (line t BlockedWord k (pos 0)) in let z = one_le (runs_in b k) in let y = one_le (eqb k k) in omega arith
-running_does t k (runs b ls s l o i) h =
-    let e = own_then k ls (line t RunWord k (pos 0)) in let z = one_le (runs_in (set b k s) k) in let y = one_le (eqb k k) in omega arith
-running_does t k (fails b ls s l o i) h =
-    let e = own_then k ls (line t FailWord k (pos 0)) in let z = one_le (runs_in (set b k s) k) in let y = one_le (eqb k k) in omega arith
-running_does t k (passes b ls s m l o i) h =
-    let e = own_then k ls (line t PassWord k m) in let z = one_le (runs_in (set b k s) k) in let y = one_le (eqb k k) in omega arith
+running_does t k (beyond b ls o) h = grind arith
+running_does t k (blocks b ls l o) h = let e = own_then k ls (line t BlockedWord k (pos 0)) in grind arith
+running_does t k (runs b ls s l o i) h = let e = own_then k ls (line t RunWord k (pos 0)) in grind arith
+running_does t k (fails b ls s l o i) h = let e = own_then k ls (line t FailWord k (pos 0)) in grind arith
+running_does t k (passes b ls s m l o i) h = let e = own_then k ls (line t PassWord k m) in grind arith
 running_does t k (overflows b ls s m l o i) h =
+    let off = runs_own b k s l ∙ i in
     let e = own_then k ls (line t PassWord k m) in
     let f = own_then k (then_line ls (line t PassWord k m)) (line t FullWord k (pos 0)) in
-    let z : one (runs_in (set b k s) k) ≡ 0 = ap one (runs_own b k s l ∙ i) in
-    let y = one_le (eqb k k) in
-    omega arith
-running_does t k (deeds.starts b ls s l o i d) h = let q = sym o ∙ h in let z : ◌≡◌ {A = ℕ} 0 1 = cc in absurd (omega arith)
+    grind arith
+running_does t k (deeds.starts b ls s l o i d) h = let q = sym o ∙ h in absurd cc
 
 own_does : (t k : ℕ) {b b' : List Skill} {ls ls' : List Line} {a : Status} → Does t k b ls a b' ls' → own k ls' + one (runs_in b' k) ≤ own k ls + 3
-own_does t k (beyond b ls o) = let z = one_le (runs_in b k) in omega arith
-own_does t k (blocks b ls l o) =
-    let e = own_then k ls (line t BlockedWord k (pos 0)) in let z = one_le (runs_in b k) in let y = one_le (eqb k k) in omega arith
+own_does t k (beyond b ls o) = grind arith
+own_does t k (blocks b ls l o) = let e = own_then k ls (line t BlockedWord k (pos 0)) in grind arith
 own_does t k (runs b ls s l o i) = let h = running_does t k (runs b ls s l o i) o in omega arith
 own_does t k (fails b ls s l o i) = let h = running_does t k (fails b ls s l o i) o in omega arith
 own_does t k (passes b ls s m l o i) = let h = running_does t k (passes b ls s m l o i) o in omega arith
 own_does t k (overflows b ls s m l o i) = let h = running_does t k (overflows b ls s m l o i) o in omega arith
 own_does t k (deeds.starts b ls s l o i d) =
-    let h = running_does t k d (runs_own b k s l ∙ i) in let e = own_then k ls (line t StartWord k (pos 0)) in let y = one_le (eqb k k) in omega arith
+    let h = running_does t k d (runs_own b k s l ∙ i) in let e = own_then k ls (line t StartWord k (pos 0)) in grind arith
 
 own_stops : (t k : ℕ) {b b' : List Skill} {ls ls' : List Line} → Stops t k b ls b' ls' → own k ls' + one (runs_in b' k) ≤ own k ls + one (runs_in b k)
 own_stops t k (is_idle b ls o) = omega arith
-own_stops t k (halts b ls s l o i) =
-    let e = own_then k ls (line t HaltWord k (pos 0)) in
-    let z : one (runs_in (set b k s) k) ≡ 0 = ap one (runs_own b k s l ∙ i) in
-    let x : one (runs_in b k) ≡ 1 = ap one o in
-    let y = one_le (eqb k k) in
-    omega arith
+own_stops t k (halts b ls s l o i) = let off = runs_own b k s l ∙ i in let e = own_then k ls (line t HaltWord k (pos 0)) in grind arith
 
 -- of the others
 
 other_line : (j k : ℕ) → eqb k j ≡ false → (t : ℕ) (v : Word) (m : ℤ) (ls : List Line) → own j (then_line ls (line t v k m)) ≡ own j ls
-other_line j k e t v m ls = let h = own_then j ls (line t v k m) in let z : one (eqb k j) ≡ 0 = ap one e in omega arith
+other_line j k e t v m ls = let h = own_then j ls (line t v k m) in grind arith
 
 other_does : (t k j : ℕ) → eqb k j ≡ false → {b b' : List Skill} {ls ls' : List Line} {a : Status} → Does t k b ls a b' ls' → own j ls' ≡ own j ls
 other_does t k j e (beyond b ls o) = refl
@@ -107,7 +93,7 @@ Spent k b r (suc (suc i)) w = Unit {0}
 module _ (k b r : ℕ) (some : 1 ≤ r) where
   more : (i j : ℕ) → i ≤ j → (w : World) → Spent k b r i w → Spent k b r j w
   more zero zero h w p = p
-  more zero (suc zero) h w p = let z = one_le (on w k) in omega arith
+  more zero (suc zero) h w p = grind arith
   more zero (suc (suc j)) h w p = tt
   more (suc zero) zero h w p = absurd (omega arith)
   more (suc zero) (suc zero) h w p = p
@@ -118,7 +104,7 @@ module _ (k b r : ℕ) (some : 1 ≤ r) where
 
   untouched : (i : ℕ) (w v : World) → own k v.lines ≡ own k w.lines → on v k ≡ on w k → Spent k b r i w → Spent k b r i v
   untouched zero w v e o p = omega arith
-  untouched (suc zero) w v e o p = let z : one (on v k) ≡ one (on w k) = ap one o in omega arith
+  untouched (suc zero) w v e o p = grind arith
   untouched (suc (suc i)) w v e o p = tt
 
   stopped : (i : ℕ) (w v : World) → 1 ≤ i → own k v.lines + one (on v k) ≤ own k w.lines + one (on w k) → Spent k b r i w → Spent k b r i v
@@ -135,8 +121,7 @@ module _ (k b r : ℕ) (some : 1 ≤ r) where
     where
       go : (e : Bool) → eqb j k ≡ e → one e ≤ i → Spent k b r i (stop_leaf t (skill j d g) w)
       go true e h =
-          let q : own k (stop_leaf t (skill j d g) w).lines + one (on (stop_leaf t (skill j d g) w) k) ≤ own k w.lines + one (on w k) =
-          subst (λ (z : ℕ). own z (stop_leaf t (skill j d g) w).lines + one (on (stop_leaf t (skill j d g) w) z) ≤ own z w.lines + one (on w z)) (eqb-true j k e) (own_stops t j (stop_does t j d g w)) in
+          let q : own k (stop_leaf t (skill j d g) w).lines + one (on (stop_leaf t (skill j d g) w) k) ≤ own k w.lines + one (on w k) = rw (sym (eqb-true j k e)) (own_stops t j (stop_does t j d g w)) in
           stopped i w (stop_leaf t (skill j d g) w) h q p
       go false e h = untouched i w (stop_leaf t (skill j d g) w) (other_stops t j k e (stop_does t j d g w)) ((obeyed us t).stop_other k (skill j d g) e w) p
   stop_spends us t (count key least) i w h p = p
@@ -148,15 +133,14 @@ visit_spent k b us t (skill j d g) i w p = go (eqb j k) refl
     go : (e : Bool) → eqb j k ≡ e → Spent k b 3 (i + one e) (visit_leaf us t (skill j d g) w).1
     go true e =
         let v = (visit_leaf us t (skill j d g) w).1 in
-        let q : own k v.lines + one (on v k) ≤ own k w.lines + 3 =
-        subst (λ (z : ℕ). own z v.lines + one (on v z) ≤ own z w.lines + 3) (eqb-true j k e) (own_does t j (visit_does us t j d g w)) in
-        subst (λ (n : ℕ). Spent k b 3 n v) (sym (add-one i)) (visited k b 3 (omega arith) i w v q p)
+        let q : own k v.lines + one (on v k) ≤ own k w.lines + 3 = rw (sym (eqb-true j k e)) (own_does t j (visit_does us t j d g w)) in
+        rw (add-one i) (visited k b 3 (omega arith) i w v q p)
     go false e =
         let v = (visit_leaf us t (skill j d g) w).1 in
-        subst (λ (n : ℕ). Spent k b 3 n v) (sym (add-zero i))
+        rw (add-zero i)
         (untouched k b 3 (omega arith) i w v (other_does t j k e (visit_does us t j d g w)) ((obeyed us t).other k (skill j d g) e w) p)
-visit_spent k b us t (count key least) i w p = subst (λ (n : ℕ). Spent k b 3 n w) (sym (add-zero i)) p
-visit_spent k b us t (ability key least) i w p = subst (λ (n : ℕ). Spent k b 3 n w) (sym (add-zero i)) p
+visit_spent k b us t (count key least) i w p = rw (add-zero i) p
+visit_spent k b us t (ability key least) i w p = rw (add-zero i) p
 
 -- names as a cost
 
@@ -190,7 +174,7 @@ visit_own us t k x w h =
     let e = cost_names k (bare x) in
     let p = visit_spends (in_tick us t) (leaf_names k) (Spent k b 3) (more k b 3 (omega arith)) (visit_spent k b us t) (stop_spends k b 3 (omega arith) us t) x 0 w (omega arith) in
     let q = within_lines k b (0 + cost (leaf_names k) (bare x)) (visit (in_tick us t) x w) (omega arith) p in
-    subst (λ (i : ℕ). LinesWithin k (b + 3 * i) (visit (in_tick us t) x w)) (let z : 0 + cost (leaf_names k) (bare x) ≡ names (bare x) k = omega arith in z) q
+    subst (λ (i : ℕ). LinesWithin k (b + 3 * i) (visit (in_tick us t) x w)) (omega arith) q
 
 -- a halt writes at most one line of a named skill, and none of another
 pub halt_own : (us : Users) (t k : ℕ) (x : Live) (w : World) → names (bare x) k ≤ 1 → own k (halt (in_tick us t) x w).lines ≤ own k w.lines + 1 * names (bare x) k
@@ -200,7 +184,7 @@ halt_own us t k x w h =
     let e = cost_names k (bare x) in
     let p = halt_spends (in_tick us t) (leaf_names k) (Spent k b 1) (stop_spends k b 1 (omega arith) us t) x i w (omega arith) (more k b 1 (omega arith) 0 i (omega arith) w (omega arith)) in
     let q = spent_lines k b 1 i (halt (in_tick us t) x w) (omega arith) p in
-    subst (λ (n : ℕ). own k (halt (in_tick us t) x w).lines ≤ b + 1 * n) e q
+    rw (sym e) q
 
 -- all lines are of skills below the width
 
@@ -210,30 +194,29 @@ Tallied n d s b ls = (length b ≡ n) × (length ls + s ≡ all_own n ls + d)
 line_tallied : (n d s t : ℕ) (v : Word) (k : ℕ) (m : ℤ) (b : List Skill) (ls : List Line) → k < length b → Tallied n d s b ls → Tallied n d s b (then_line ls (line t v k m))
 line_tallied n d s t v k m b ls l (e, h) = (
   e,
-  let a = length_then ls (line t v k m) in
+  let a = length_push ls (line t v k m) in
       let c = sum_own_then n ls (line t v k m) in
       let z = one_hit k n (omega arith) in
       omega arith,
 )
 
-set_tallied : (n d s k : ℕ) (z : Skill) (b : List Skill) (ls : List Line) → Tallied n d s b ls → Tallied n d s (set b k z) ls
-set_tallied n d s k z b ls (e, h) = (length-set b k z ∙ e, h)
+turned_tallied : (n d s t : ℕ) (v : Word) (k : ℕ) (m : ℤ) (z : Skill) (b : List Skill) (ls : List Line) → k < length b → Tallied n d s b ls →
+    Tallied n d s (set b k z) (then_line ls (line t v k m))
+turned_tallied n d s t v k m z b ls l h = let q = line_tallied n d s t v k m b ls l h in (length-set b k z ∙ q.0, q.1)
 
 does_tallied : (n d s t k : ℕ) {b b' : List Skill} {ls ls' : List Line} {a : Status} → Does t k b ls a b' ls' → Tallied n d s b ls → Tallied n d s b' ls'
 does_tallied n d s t k (beyond b ls o) h = h
 does_tallied n d s t k (blocks b ls l o) h = line_tallied n d s t BlockedWord k (pos 0) b ls l h
-does_tallied n d s t k (runs b ls z l o i) h = set_tallied n d s k z b (then_line ls (line t RunWord k (pos 0))) (line_tallied n d s t RunWord k (pos 0) b ls l h)
-does_tallied n d s t k (fails b ls z l o i) h = set_tallied n d s k z b (then_line ls (line t FailWord k (pos 0))) (line_tallied n d s t FailWord k (pos 0) b ls l h)
-does_tallied n d s t k (passes b ls z m l o i) h = set_tallied n d s k z b (then_line ls (line t PassWord k m)) (line_tallied n d s t PassWord k m b ls l h)
+does_tallied n d s t k (runs b ls z l o i) h = turned_tallied n d s t RunWord k (pos 0) z b ls l h
+does_tallied n d s t k (fails b ls z l o i) h = turned_tallied n d s t FailWord k (pos 0) z b ls l h
+does_tallied n d s t k (passes b ls z m l o i) h = turned_tallied n d s t PassWord k m z b ls l h
 does_tallied n d s t k (overflows b ls z m l o i) h =
-    let ls' = then_line ls (line t PassWord k m) in
-    set_tallied n d s k z b (then_line ls' (line t FullWord k (pos 0))) (line_tallied n d s t FullWord k (pos 0) b ls' l (line_tallied n d s t PassWord k m b ls l h))
-does_tallied n d s t k (deeds.starts b ls z l o i r) h =
-    does_tallied n d s t k r (set_tallied n d s k z b (then_line ls (line t StartWord k (pos 0))) (line_tallied n d s t StartWord k (pos 0) b ls l h))
+    turned_tallied n d s t FullWord k (pos 0) z b (then_line ls (line t PassWord k m)) l (line_tallied n d s t PassWord k m b ls l h)
+does_tallied n d s t k (deeds.starts b ls z l o i r) h = does_tallied n d s t k r (turned_tallied n d s t StartWord k (pos 0) z b ls l h)
 
 stops_tallied : (n d s t k : ℕ) {b b' : List Skill} {ls ls' : List Line} → Stops t k b ls b' ls' → Tallied n d s b ls → Tallied n d s b' ls'
 stops_tallied n d s t k (is_idle b ls o) h = h
-stops_tallied n d s t k (halts b ls z l o i) h = set_tallied n d s k z b (then_line ls (line t HaltWord k (pos 0))) (line_tallied n d s t HaltWord k (pos 0) b ls l h)
+stops_tallied n d s t k (halts b ls z l o i) h = turned_tallied n d s t HaltWord k (pos 0) z b ls l h
 
 abbrev Counted : ℕ → ℕ → ℕ → World → Type 0
 Counted n d s w = Tallied n d s w.bank w.lines

@@ -2,7 +2,6 @@
 use Rattle.std.proofs.Common.{◌≡◌, ℕ, zero, suc, ◌+◌, Bool, true, false, eqb, Option, refl, arith}
 use Rattle.mission.specs.declared.node.Target.{Target}
 use Rattle.mission.specs.Trees.{Leaf, skill, count, ability, Tree, leaf, group, par, neg, again, Trees, nil, cons}
-use Rattle.rules.specs.Lines.{one}
 use Rattle.rules.specs.Live.{Polarity, on_pass, on_fail, goes_on, remembers, counts_on, Kept, pending, ended, Live, live_leaf, live_group, live_par, live_not, live_loop, Kids, no_kids, kid, fresh, fresh_kids, cleared, cleared_kids, forgotten}
 use Rattle.rules.specs.Missions.{leaf_names, names, names_all}
 use Rattle.rules.specs.Visiting.{behind, later, after_par}
@@ -136,16 +135,8 @@ left_behind p false b h i = (b, group_here false b h i)
 
 -- in a fresh tree
 
-pub one_none : (b : Bool) → one b ≡ 0 → b ≡ false
-one_none true e = absurd (omega arith)
-one_none false e = refl
-
-pub one_some : (b : Bool) → one b ≡ 1 → b ≡ true
-one_some true e = refl
-one_some false e = absurd (omega arith)
-
 leaf_absent : (k : ℕ) (l : Leaf) → leaf_names k l ≡ 0 → Other k l
-leaf_absent k (skill j d t) e = one_none (eqb j k) e
+leaf_absent k (skill j d t) e = grind arith
 leaf_absent k (count key least) e = tt
 leaf_absent k (ability key least) e = tt
 
@@ -172,7 +163,7 @@ parted (suc zero) b e = first refl (omega arith)
 parted (suc (suc a)) b e = absurd (omega arith)
 
 leaf_stands : (k : ℕ) (l : Leaf) → leaf_names k l ≡ 1 → Somewhere k (live_leaf l)
-leaf_stands k (skill j d t) e = (true, at_leaf j d t (one_some (eqb j k) e))
+leaf_stands k (skill j d t) e = (true, at_leaf j d t (grind arith))
 leaf_stands k (count key least) e = absurd (omega arith)
 leaf_stands k (ability key least) e = absurd (omega arith)
 

@@ -1,6 +1,6 @@
 -- Sums over the numbers below n.
-use Rattle.std.proofs.Common.{◌≡◌, ℕ, zero, suc, ◌+◌, ◌*◌, ◌<◌, ◌≤◌, Bool, true, false, eqb, sym, refl, ap, ◌∙◌, mul-zero, mul-add, arith, ne_eqb, eqb-true}
-use borrow.Author.Tests.{eqb-false}
+use Rattle.std.proofs.Common.{◌≡◌, ℕ, zero, suc, ◌+◌, ◌*◌, ◌<◌, ◌≤◌, eqb, sym, refl, ap, ◌∙◌, mul-zero, mul-add, arith}
+use Rattle.std.proofs.lemmas.Bool.Decides.{nat_tests}
 use Rattle.rules.specs.Lines.{one}
 
 abbrev pub sum_below : (ℕ → ℕ) → ℕ → ℕ
@@ -19,26 +19,14 @@ pub sum_times : (r : ℕ) (f : ℕ → ℕ) (n : ℕ) → sum_below (λ k. r * f
 sum_times r f zero = sym (mul-zero r)
 sum_times r f (suc n) = ap (λ (c : ℕ). r * f n + c) (sum_times r f n) ∙ sym (mul-add r (f n) (sum_below f n))
 
-pub one_le : (b : Bool) → one b ≤ 1
-one_le true = omega arith
-one_le false = omega arith
-
 no_hit : (j n : ℕ) → n ≤ j → sum_below (λ k. one (eqb j k)) n ≡ 0
 no_hit j zero h = refl
-no_hit j (suc n) h = rw (ne_eqb j n (λ e. omega arith)) (let i = no_hit j n (omega arith) in omega arith)
+no_hit j (suc n) h = grind (arith, nat_tests, no_hit j n)
 
 pub at_most_one_hit : (j n : ℕ) → sum_below (λ k. one (eqb j k)) n ≤ 1
 at_most_one_hit j zero = omega arith
-at_most_one_hit j (suc n) = go (at_most_one_hit j n) (eqb j n) refl
-  where
-    go : sum_below (λ k. one (eqb j k)) n ≤ 1 → (b : Bool) → eqb j n ≡ b → one b + sum_below (λ k. one (eqb j k)) n ≤ 1
-    go h true e = let q = eqb-true j n e in let z = no_hit j n (omega arith) in omega arith
-    go h false e = omega arith
+at_most_one_hit j (suc n) = grind (arith, nat_tests, at_most_one_hit j n, no_hit j n)
 
 pub one_hit : (j n : ℕ) → j < n → sum_below (λ k. one (eqb j k)) n ≡ 1
 one_hit j zero h = absurd (omega arith)
-one_hit j (suc n) h = go (one_hit j n) (eqb j n) refl
-  where
-    go : (j < n → sum_below (λ k. one (eqb j k)) n ≡ 1) → (b : Bool) → eqb j n ≡ b → one b + sum_below (λ k. one (eqb j k)) n ≡ 1
-    go i true e = let q = eqb-true j n e in let z = no_hit j n (omega arith) in omega arith
-    go i false e = let d : (j ≡ n → ⊥) = eqb-false j n e in let z = i (omega arith) in omega arith
+one_hit j (suc n) h = grind (arith, nat_tests, one_hit j n, no_hit j n)

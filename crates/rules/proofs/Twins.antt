@@ -1,5 +1,5 @@
 -- Two sittings whose missions regrouping joins, begun alike, are seen the same.
-use Rattle.std.proofs.Common.{◌≡◌, ℕ, suc, Bool, true, false, not, eqb, List, [], ◌∷◌, Some, None, Option, sym, refl, ◌∙◌, subst, ap₂}
+use Rattle.std.proofs.Common.{◌≡◌, ℕ, suc, Bool, true, false, not, eqb, List, [], ◌∷◌, Some, None, Option, sym, refl, ◌∙◌, ap₂}
 use Rattle.mission.specs.Trees.{Tree}
 use Rattle.rules.specs.declared.sitting_fault.SittingFault.{SittingFault}
 use Rattle.rules.specs.declared.sitting_fault.SittingFault.TheVariants.{PlaceClosed, TraceLength}
@@ -57,8 +57,7 @@ module _ (us : Users) (c a : ℕ) (t u : Tree) (e : users t ≡ users u) (x y : 
       unless_twins (first_of (tick_checks us one (held_state one w r))) (both_held c a t u e h n i q f w r) (ticked_twins (visit_related (in_tick us (suc i)) h w))
 
   halted_twins : (v v' : World) → v ≡ v' → Twins (halted_with v one (held_state one w r)) (halted_with v' other (held_state other w r))
-  halted_twins v v' d =
-      subst (λ (z : World). Twins (halted_with v one (held_state one w r)) (halted_with z other (held_state other w r))) d
+  halted_twins v v' d = rw (sym d)
       (twins halted (both_held c a t u e (clear_related h) n i q [] (root_noted i RootHalt v) r))
 
   halt_twins : Twins (halt_on us one (held_state one w r)) (halt_on us other (held_state other w r))
@@ -71,8 +70,7 @@ module _ (us : Users) (c a : ℕ) (t u : Tree) (e : users t ≡ users u) (x y : 
   closed_same false v = twins closed (both_shut (root_noted i RootClosed v) r)
 
   closed_twins : (b : Bool) (v v' : World) → v ≡ v' → Twins (closed_with b v one (held_state one w r)) (closed_with b v' other (held_state other w r))
-  closed_twins b v v' d =
-      subst (λ (z : World). Twins (closed_with b v one (held_state one w r)) (closed_with b z other (held_state other w r))) d (closed_same b v)
+  closed_twins b v v' d = rw (sym d) (closed_same b v)
 
   close_twins : (slip : ℕ) → Twins (close_on us one slip (held_state one w r)) (close_on us other slip (held_state other w r))
   close_twins slip =
@@ -81,20 +79,11 @@ module _ (us : Users) (c a : ℕ) (t u : Tree) (e : users t ≡ users u) (x y : 
 
 call_twins : (k : Call) {s s' : State} → Twin s s' → Twins (called k s) (called k s')
 call_twins tick (both_shut w r) = twins (refused PlaceClosed) (both_shut w r)
-call_twins tick (both_held c a t u e {x = x} {y = y} h n i q f w r) =
-    let o = seated (planned c a t) x n i q f in
-    let o' = seated (planned c a u) y n i q f in
-    subst (λ (us : Users). Twins (tick_on (users t) o (held_state o w r)) (tick_on us o' (held_state o' w r))) e (tick_twins (users t) c a t u e x y h n i q f w r)
+call_twins tick (both_held c a t u e {x = x} {y = y} h n i q f w r) = rw (sym e) (tick_twins (users t) c a t u e x y h n i q f w r)
 call_twins halt_root (both_shut w r) = twins (refused PlaceClosed) (both_shut w r)
-call_twins halt_root (both_held c a t u e {x = x} {y = y} h n i q f w r) =
-    let o = seated (planned c a t) x n i q f in
-    let o' = seated (planned c a u) y n i q f in
-    subst (λ (us : Users). Twins (halt_on (users t) o (held_state o w r)) (halt_on us o' (held_state o' w r))) e (halt_twins (users t) c a t u e x y h n i q f w r)
+call_twins halt_root (both_held c a t u e {x = x} {y = y} h n i q f w r) = rw (sym e) (halt_twins (users t) c a t u e x y h n i q f w r)
 call_twins (close slip) (both_shut w r) = twins (refused PlaceClosed) (both_shut w r)
-call_twins (close slip) (both_held c a t u e {x = x} {y = y} h n i q f w r) =
-    let o = seated (planned c a t) x n i q f in
-    let o' = seated (planned c a u) y n i q f in
-    subst (λ (us : Users). Twins (close_on (users t) o slip (held_state o w r)) (close_on us o' slip (held_state o' w r))) e (close_twins (users t) c a t u e x y h n i q f w r slip)
+call_twins (close slip) (both_held c a t u e {x = x} {y = y} h n i q f w r) = rw (sym e) (close_twins (users t) c a t u e x y h n i q f w r slip)
 
 sight_twins : (a : Answer) {s s' : State} → Twin s s' → sight (a, s') ≡ sight (a, s)
 sight_twins a (both_shut w r) = refl

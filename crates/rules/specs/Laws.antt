@@ -1,7 +1,7 @@
 -- The law of whole runs: of every list of ticks, halts and closes after an accepted opening.
 use Rattle.std.specs.Prelude.{◌≡◌, ℕ, ◌+◌, ◌≤◌, List, [], ◌∷◌, map, Option}
 use Rattle.entry.specs.declared.parts.Ability.{Ability}
-use Rattle.entry.specs.declared.parts.Count.{Count}
+use Rattle.entry.specs.Kinds.{Count}
 use Rattle.bank.specs.Skills.{Skill}
 use Rattle.mission.specs.declared.mission.Mission.{Mission}
 use Rattle.rules.specs.declared.line.Line.{Line}

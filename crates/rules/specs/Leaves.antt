@@ -1,15 +1,12 @@
 -- The world of a sitting: a bank and two boards by their meanings, and the lines written; and what a
 -- visit and a stop of a leaf do in it.
-use Rattle.std.specs.Prelude.{ℕ, Bool, true, false, ◌&&◌, ◌||◌, T, List, [], ◌∷◌, length, ℤ, pos, negsuc, Some, None, Ok, Err, Option, Result, ◌==◌, int_le, nat_lt, slice_index_or, slice_set}
-use Rattle.std.specs.Int.Signed.{le_z_yes}
+use Rattle.std.specs.Prelude.{ℕ, Bool, true, false, ◌&&◌, List, [], ◌∷◌, length, ℤ, pos, Some, None, Ok, Err, Option, Result, ◌==◌, nat_lt, slice_index_or, slice_set}
+use Rattle.std.specs.List.{list_any}
 use Rattle.entry.specs.declared.parts.Ability.{Ability}
-use Rattle.entry.specs.declared.parts.Count.{Count}
-use Rattle.entry.specs.declared.parts.Mark.{Mark}
+use Rattle.entry.specs.Kinds.{Count, Mark, whole_of}
 use Rattle.entry.specs.declared.parts.Weighed.{Weighed}
 use Rattle.entry.specs.Abilities.{ability_meets, ability_takes, ability_makes}
 use Rattle.entry.specs.Counts.{count_meets, count_takes, count_makes}
-use Rattle.entry.specs.Holding.{where_true, front, back}
-use Rattle.entry.specs.Ranges.{is_mark}
 use Rattle.bank.specs.Skills.{Skill, no_skill, runs_now, started, struck, polled, poll_reply}
 use Rattle.bank.specs.declared.bank_fault.BankFault.{BankFault}
 use Rattle.bank.specs.declared.kinds.Ending.TheVariants.{Fail as EndFail, Pass as EndPass}
@@ -60,17 +57,9 @@ with_abilities l w = record { bank = w.bank; counts = w.counts; abilities = l; l
 
 -- a mark brought into its entry
 
--- the mark of a number in range
-unfoldable pub mark_in : (m : ℤ) → T (is_mark m) → Mark
-mark_in m t =
-    record {
-      value = m;
-      low = le_z_yes (front (int_le (negsuc 99) m) (int_le m (pos 100)) t);
-      high = le_z_yes (back (int_le (negsuc 99) m) (int_le m (pos 100)) t);
-    }
-
+-- the mark of a number, absent where the number is out of range
 abbrev pub mark_of : ℤ → Option Mark
-mark_of m = where_true (is_mark m) (mark_in m)
+mark_of = whole_of 100
 
 abbrev pub is_taken : Entered → Bool
 is_taken Made = true
@@ -120,8 +109,7 @@ has_device d (Some e) = e == d
 
 -- a running skill of the sitting has the device
 abbrev pub in_use : Users → ℕ → List Skill → Bool
-in_use [] d l = false
-in_use (u ∷ us) d l = (has_device d u.1 && runs_in l u.0) || in_use us d l
+in_use us d l = list_any (λ u. has_device d u.1 && runs_in l u.0) us
 
 abbrev pub is_blocked : Users → Option ℕ → List Skill → Bool
 is_blocked us None l = false

@@ -1,5 +1,6 @@
 -- Trace lines: the words with their numbers, and how often a word stands for a skill.
-use Rattle.std.specs.Prelude.{ℕ, ◌+◌, Bool, true, false, ◌&&◌, List, [], ◌∷◌, ◌++◌, ℤ, pos, ◌==◌}
+use Rattle.std.specs.Prelude.{ℕ, ◌+◌, Bool, cond, ◌&&◌, List, [], ◌∷◌, ◌++◌, ℤ, pos, ◌==◌}
+use Rattle.std.specs.List.{count_by}
 use Rattle.rules.specs.declared.line.Line.{Line}
 use Rattle.rules.specs.declared.status.Status.{Status}
 use Rattle.rules.specs.declared.status.Status.TheVariants.{Run as StatusRun, Pass as StatusPass, Fail as StatusFail}
@@ -39,8 +40,7 @@ abbrev pub then_line : List Line → Line → List Line
 then_line ls l = ls ++ (l ∷ [])
 
 abbrev pub one : Bool → ℕ
-one true = 1
-one false = 0
+one b = cond b 1 0
 
 -- whether a line has this word of this skill
 abbrev pub tells : ℕ → ℕ → Line → Bool
@@ -48,8 +48,7 @@ tells v k l = l.word == v && l.skill == k
 
 -- how many lines have this word of this skill
 abbrev pub told : ℕ → ℕ → List Line → ℕ
-told v k [] = 0
-told v k (l ∷ ls) = one (tells v k l) + told v k ls
+told v k ls = count_by (tells v k) ls
 
 abbrev pub starts : ℕ → List Line → ℕ
 starts k ls = told (number Start) k ls

@@ -1,5 +1,6 @@
 -- A mission as a sitting sees it: its declared numbers and its tree.
-use Rattle.std.specs.Prelude.{◌≡◌, ℕ, ◌+◌, length, Some, None, Option, ◌==◌}
+use Rattle.std.specs.Prelude.{◌≡◌, ℕ, ◌+◌, length, Option, ◌==◌}
+use Rattle.std.specs.Option.{unwrap_or}
 use Rattle.mission.specs.declared.mission.Mission.{Mission}
 use Rattle.mission.specs.declared.node.GroupKind.TheVariants.{Seq}
 use Rattle.mission.specs.Lawful.{Shape}
@@ -16,8 +17,7 @@ pub record Plan : Type 0 where
 
 -- the nodes of a mission always make a tree
 abbrev pub made : Option Tree → Tree
-made None = group Seq nil
-made (Some t) = t
+made o = unwrap_or o (group Seq nil)
 
 abbrev pub plan_of : Shape → Plan
 plan_of m = record { counts = m.counts; abilities = m.abilities; tree = made (tree_of m.nodes) }

@@ -2,10 +2,12 @@
 -- what the boards hold then.
 use Rattle.std.specs.Prelude.{◌≡◌, ℕ, zero, suc, List, [], ◌∷◌, map, ℤ, pos, negsuc, Some, None, Option, ◌==◌}
 use Rattle.std.proofs.Common.{lit≤}
+use Rattle.std.specs.List.{filter}
+use Rattle.std.specs.Option.{option_map}
 use Rattle.std.specs.Int.Signed.{le_z_yes}
 use Rattle.entry.specs.declared.parts.Ability.{Ability}
 use Rattle.entry.specs.declared.parts.AbilityThreshold.{AbilityThreshold}
-use Rattle.entry.specs.declared.parts.Count.{Count}
+use Rattle.entry.specs.Kinds.{Count}
 use Rattle.entry.specs.declared.parts.Weight.{Weight}
 use Rattle.entry.specs.Abilities.{ability_of}
 use Rattle.entry.specs.Counts.{count_of}
@@ -18,7 +20,7 @@ use Rattle.rules.specs.declared.line.Line.{Line}
 use Rattle.rules.specs.declared.word.Word.TheVariants.{Start, Run, Pass, Halt, Blocked, Full, RootRun, RootPass, RootFail}
 use Rattle.rules.specs.Leaves.{World}
 use Rattle.rules.specs.Lines.{line, root_line}
-use Rattle.rules.specs.Sittings.{shut, State, tick, opening, called, pick}
+use Rattle.rules.specs.Sittings.{shut, State, tick, opening, called}
 
 -- a skill that is idle, passes with this mark after so many runs, and does so again and again
 abbrev pub repeating : ℕ → ℤ → Skill
@@ -35,15 +37,18 @@ plain k = leaf (skill k None Nowhere)
 abbrev pub two : Tree → Tree → Trees
 two t u = cons t (cons u nil)
 
+abbrev pub weight_1 : Weight
+weight_1 = record { value = 1; least = lit≤ tt; most = lit≤ tt }
+
 abbrev pub weight_2 : Weight
 weight_2 = record { value = 2; least = lit≤ tt; most = lit≤ tt }
 
 -- at least -1 over 2, and at least -3 over 1
 abbrev pub half_below : AbilityThreshold
-half_below = record { least = negsuc 0; over = 2; low = le_z_yes tt; high = le_z_yes tt; above = lit≤ tt; within = lit≤ tt }
+half_below = record { least = record { value = negsuc 0; low = le_z_yes tt; high = le_z_yes tt }; over = weight_2 }
 
 abbrev pub three_below : AbilityThreshold
-three_below = record { least = negsuc 2; over = 1; low = le_z_yes tt; high = le_z_yes tt; above = lit≤ tt; within = lit≤ tt }
+three_below = record { least = record { value = negsuc 2; low = le_z_yes tt; high = le_z_yes tt }; over = weight_1 }
 
 pub record Sample : Type 0 where
   pub tree : Tree
@@ -68,16 +73,13 @@ begins e =
     (record { place = shut; world = record { bank = e.bank; counts = e.counts; abilities = e.abilities; lines = [] }; length = 64 })).1
 
 abbrev pub lines_of : ℕ → List Line → List Line
-lines_of t [] = []
-lines_of t (l ∷ ls) = pick (l.tick == t) (l ∷ lines_of t ls) (lines_of t ls)
+lines_of t ls = filter (λ l. l.tick == t) ls
 
 abbrev pub count_shown : Option Count → Option ℤ
-count_shown None = None
-count_shown (Some c) = Some c.value
+count_shown o = option_map (λ c. c.value) o
 
 abbrev pub ability_shown : Option Ability → Option (ℤ × ℕ)
-ability_shown None = None
-ability_shown (Some a) = Some (a.marks, a.weight)
+ability_shown o = option_map (λ a. (a.marks, a.weight)) o
 
 abbrev pub shown_at : ℕ → World → Shown
 shown_at t w = record { lines = lines_of t w.lines; counts = map count_shown w.counts; abilities = map ability_shown w.abilities }

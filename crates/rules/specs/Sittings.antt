@@ -1,6 +1,7 @@
 -- A sitting's state, and its calls: each is refused by the first of its checks that holds, and a refusal
 -- changes nothing.
-use Rattle.std.specs.Prelude.{ℕ, suc, ◌+◌, ◌-◌, ◌*◌, Bool, true, false, not, ◌||◌, List, [], ◌∷◌, length, Some, None, Option, ◌==◌, nat_lt}
+use Rattle.std.specs.Prelude.{ℕ, suc, ◌+◌, ◌-◌, ◌*◌, Bool, true, false, cond, not, ◌||◌, List, [], ◌∷◌, length, map, Some, None, Option, ◌==◌, nat_lt}
+use Rattle.std.specs.List.{list_any, filter}
 use Rattle.bank.specs.Skills.{Skill}
 use Rattle.rules.specs.declared.sitting_fault.SittingFault.{SittingFault}
 use Rattle.rules.specs.declared.sitting_fault.SittingFault.TheVariants.{PlaceOpen, PlaceClosed, SkillBeyond, SkillRuns, SkillsDiffer, BoardSmall, TraceLength, TraceFull, OtherSlip}
@@ -49,16 +50,13 @@ pub data Answer : Type 0 where
 -- checks
 
 abbrev pub has : ℕ → List ℕ → Bool
-has k [] = false
-has k (j ∷ js) = j == k || has k js
+has k js = list_any (λ j. j == k) js
 
 abbrev pub any_beyond : Users → ℕ → Bool
-any_beyond [] width = false
-any_beyond (u ∷ us) width = not (nat_lt u.0 width) || any_beyond us width
+any_beyond us width = list_any (λ u. not (nat_lt u.0 width)) us
 
 abbrev pub any_runs : Users → List Skill → Bool
-any_runs [] l = false
-any_runs (u ∷ us) l = runs_in l u.0 || any_runs us l
+any_runs us l = list_any (λ u. runs_in l u.0) us
 
 abbrev pub unlike : Bool → Bool → Bool
 unlike true b = not b
@@ -66,8 +64,7 @@ unlike false b = b
 
 -- the bank and the sitting differ on whether a named skill runs
 abbrev pub any_differs : Users → List Skill → List ℕ → Bool
-any_differs [] l front = false
-any_differs (u ∷ us) l front = unlike (runs_in l u.0) (has u.0 front) || any_differs us l front
+any_differs us l front = list_any (λ u. unlike (runs_in l u.0) (has u.0 front)) us
 
 abbrev pub too_small : Plan → World → Bool
 too_small p w = nat_lt (length w.counts) p.counts || nat_lt (length w.abilities) p.abilities
@@ -118,14 +115,10 @@ halt_checks us o s =
 abbrev pub close_checks : Sitting → ℕ → List (Bool × SittingFault)
 close_checks o slip = (not (slip == o.number), OtherSlip) ∷ []
 
-abbrev pub pick : {A : Type 0} → Bool → A → A → A
-pick true a b = a
-pick false a b = b
-
 -- the first check that holds
 abbrev pub first_of : List (Bool × SittingFault) → Option SittingFault
 first_of [] = None
-first_of (c ∷ cs) = pick c.0 (Some c.1) (first_of cs)
+first_of (c ∷ cs) = cond c.0 (Some c.1) (first_of cs)
 
 abbrev pub unless : Option SittingFault → State → Answer × State → Answer × State
 unless None s r = r
@@ -152,8 +145,7 @@ root_noted t v w = record { bank = w.bank; counts = w.counts; abilities = w.abil
 
 -- the named skills that are on a front, in tree order
 abbrev pub named_on : Users → List ℕ → List ℕ
-named_on [] front = []
-named_on (u ∷ us) front = pick (has u.0 front) (u.0 ∷ named_on us front) (named_on us front)
+named_on us front = filter (λ k. has k front) (map (λ u. u.0) us)
 
 -- with this memory, these ticks and this front
 abbrev pub continued : Sitting → Live → ℕ → List ℕ → Sitting

@@ -47,6 +47,7 @@ impl Refusal for SittingFault {
 
     ghost lined = { line_of };
 
+    // Kept a match: two variants hand up another layer's number, so no cast gives it.
     fn number(&self) -> u8 {
         match self {
             SittingFault::PlaceOpen => 8,

@@ -19,7 +19,8 @@ pub enum Word {
 }
 
 impl Word {
-    // Its number in a trace line.
+    // Its number in a trace line. The words stand in the order of their numbers, so the cast is the number.
+    // Kept a method, not a From: that would be no plainer, and faults are asked for theirs by this name.
     pub fn number(self) -> u8
         ensures { result ≡ number_of self }
     {

@@ -1,16 +1,19 @@
 -- Cutting a line is the inverse of joining its fields.
-use Rattle.std.proofs.Common.{◌≡◌, ℕ, zero, suc, ◌+◌, ◌<◌, true, false, not, eqb, ◌⊎◌, List, [], ◌∷◌, ◌++◌, map, ℤ, pos, negsuc, Some, None, Option, sym, refl, ap, ◌∙◌, inl, inr, ⊎_elim, arith}
+use Rattle.std.proofs.Common.{◌≡◌, ℕ, zero, suc, ◌+◌, ◌<◌, ◌≤◌, Bool, true, false, not, eqb, ◌⊎◌, List, [], ◌∷◌, ◌++◌, length, get_or, take, drop, map, ℤ, pos, negsuc, Some, None, Option, sym, refl, ap, ◌∙◌, inl, inr, ⊎_elim, arith, length-append}
 use Rattle.std.proofs.lemmas.Int.Digits.{all_below_base_digits_of}
 use Rattle.std.proofs.lemmas.Slice.Eq.{bytes_eq-Decides}
-use Rattle.std.proofs.lemmas.Bool.{cond-true, cond-false, cases_Bool, and_parts, and_from, not-true, eq-eqb}
+use Rattle.std.proofs.lemmas.Bool.{cond-true, cond-false, cases_Bool, cases_lt, lt-ltb, le-ltb, and_parts, and_from, not-true, eq-eqb}
+use Rattle.std.proofs.lemmas.List.Sums.{passes_at_first, fails_before_first}
 use Rattle.std.proofs.lemmas.Bool.Decides.{nat_tests}
 use Rattle.std.specs.Option.{option_map}
 use Rattle.std.specs.Int.Digits.{digits_of, AllBelowBase}
 use Rattle.std.specs.Str.{bytes_eq}
+use Rattle.std.specs.List.{position, position_or_len}
 use Rattle.text.specs.Numeral.{natural, numeral, valued, kept}
 use Rattle.text.specs.Fields.{Rest, onto, field, spaced, free, front, parted, then, cut_or, next, halves, named, word, meant, number, meant_or, number_or, last, one_ended, pair_ended}
 use Rattle.text.proofs.Numerals.{valued_numeral, valued_sound, no_value}
-pub use Rattle.text.proofs.Options.{never, some_same, then_some, mapped_some, mapped_none}
+pub use Rattle.std.proofs.lemmas.Option.{same_Some as some_same}
+pub use Rattle.text.proofs.Options.{never, then_some, mapped_some}
 
 -- a text with no b is not cut
 pub parted_none : (b : ℕ) (p : List ℕ) → free b p ≡ true → parted b p ≡ None
@@ -46,6 +49,35 @@ parted_sound b (x ∷ xs) p e =
     let s = front_some x (parted b xs) p (sym (cond-false _ _ _ f) ∙ e) in
     ap (λ ys. x ∷ ys) (parted_sound b xs s.0 s.1) ∙ ap (λ (o : List ℕ × List ℕ). o.0 ++ (b ∷ o.1)) (sym s.2))
     (cases_Bool (eqb x b))
+
+-- a text is cut at the first place of b, by index
+first_place : (b : ℕ) (xs : List ℕ) (i : ℕ) → i < length xs → eqb (get_or xs i b) b ≡ true → ((k : ℕ) → k < i → eqb (get_or xs k b) b ≡ false)
+    → parted b xs ≡ Some (take i xs, drop (i + 1) xs)
+unfolding parted
+first_place b [] i h e f = absurd (omega arith)
+first_place b (x ∷ xs) zero h e f = cond-true _ _ _ e
+first_place b (x ∷ xs) (suc i) h e f =
+    let more : suc (i + 1) ≡ suc i + 1 = omega arith in
+    cond-false _ _ _ (f 0 (omega arith)) ∙ ap (front x) (first_place b xs i (omega arith) e (λ k l. f (suc k) (omega arith))) ∙ ap (λ j. Some (x ∷ take i xs, drop j (x ∷ xs))) more
+
+no_place : (b : ℕ) (xs : List ℕ) → ((k : ℕ) → k < length xs → eqb (get_or xs k b) b ≡ false) → parted b xs ≡ None
+unfolding parted
+no_place b [] f = refl
+no_place b (x ∷ xs) f = cond-false _ _ _ (f 0 (omega arith)) ∙ ap (front x) (no_place b xs (λ k l. f (suc k) (omega arith)))
+
+-- the parts at the first place of b, and none where it has no place
+pub parted_position : (b : ℕ) (xs : List ℕ) → parted b xs ≡ option_map (λ i. (take i xs, drop (i + 1) xs)) (position (λ x. eqb x b) xs)
+parted_position b xs =
+    let test : ℕ → Bool = λ x. eqb x b in
+    let n = position_or_len test xs in
+    ⊎_elim
+    (λ (l : n < length xs). first_place b xs n l (passes_at_first test xs b l) (λ k h. fails_before_first test xs k b h) ∙ sym (ap (option_map (λ i. (take i xs, drop (i + 1) xs))) (cond-true _ _ _ (lt-ltb n (length xs) l))))
+    (λ (g : length xs ≤ n). no_place b xs (λ k h. fails_before_first test xs k b (omega arith)) ∙ sym (ap (option_map (λ i. (take i xs, drop (i + 1) xs))) (cond-false _ _ _ (le-ltb n (length xs) g))))
+    (cases_lt n (length xs))
+
+-- what follows the first b is shorter
+pub parted_shorter : (b : ℕ) (xs : List ℕ) (p : List ℕ × List ℕ) → parted b xs ≡ Some p → length p.1 < length xs
+parted_shorter b xs p e = let l = ap length (parted_sound b xs p e) in let m = length-append p.0 (b ∷ p.1) in omega arith
 
 -- the next field, as a text
 pub next_onto : (w : List ℕ) (r : Rest) → free 32 w ≡ true → next (Some (onto w r)) ≡ Some (w, r)

@@ -1,24 +1,14 @@
 -- One numeral a number, one number a numeral.
-use Rattle.std.proofs.Common.{◌≡◌, ℕ, zero, suc, ◌+◌, ◌-◌, ◌*◌, ◌/◌, ◌%◌, ◌<◌, ◌≤◌, min, true, false, ◌&&◌, eqb, leb, List, [], ◌∷◌, ◌++◌, map, get_or, ℤ, pos, negsuc, nat_abs, ◌≤ℤ◌, ◌<ℤ◌, Some, None, Option, sym, refl, ap, ◌∙◌, ⊎_elim, append_assoc, append-nil, arith}
-use lib.Arith.{digits_div, digits_mod}
+use Rattle.std.proofs.Common.{◌≡◌, ℕ, zero, suc, ◌+◌, ◌-◌, ◌*◌, ◌/◌, ◌%◌, ◌<◌, ◌≤◌, min, true, false, ◌&&◌, eqb, leb, List, [], ◌∷◌, ◌++◌, map, get_or, ℤ, pos, negsuc, Some, None, Option, sym, refl, ap, ◌∙◌, ⊎_elim, append_assoc, append-nil, arith}
+use Rattle.std.proofs.lemmas.Nat.{div-mul-add, mod-mul-add}
 use Rattle.std.proofs.lemmas.Int.Digits.{digits_of_step, all_below_base_digits_of, first_digits_of, number_digits_of}
 use Rattle.std.proofs.lemmas.List.{map-append}
-use Rattle.std.proofs.lemmas.Int.{ints}
 use Rattle.std.proofs.lemmas.Bool.{cond-true, cond-false, cases_Bool}
 use Rattle.std.proofs.lemmas.Bool.Decides.{nat_tests}
 use Rattle.std.specs.Option.{option_map}
 use Rattle.std.specs.Int.Digits.{digits_of, number_from_digits_after, AllBelowBase}
 use Rattle.text.specs.Numeral.{natural, numeral, digit, reads, above, below, alone, valued, reads_kept, most, kept, ReadAs}
 use Rattle.text.proofs.Options.{never, mapped_some}
-
--- the digits of a number, none for zero
-unfoldable pub digits_text : ℕ → List ℕ
-digits_text n = map (λ d. 48 + d) (digits_of 10 n)
-
--- the last digit stands after those of a tenth
-pub digits_step : (n : ℕ) → 0 < n → digits_text n ≡ digits_text (n / 10) ++ ((48 + n % 10) ∷ [])
-unfolding digits_text
-digits_step n h = ap (map (λ d. 48 + d)) (digits_of_step 10 n (omega arith) h) ∙ map-append (λ d. 48 + d) (digits_of 10 (n / 10)) _
 
 pub natural_above : (n : ℕ) → 0 < n → natural n ≡ map (λ d. 48 + d) (digits_of 10 n)
 unfolding natural
@@ -32,8 +22,8 @@ natural_push v d h l =
     natural_above (v * 10 + d) up
     ∙ ap (map (λ e. 48 + e)) (digits_of_step 10 (v * 10 + d) (omega arith) up)
     ∙ map-append (λ e. 48 + e) (digits_of 10 ((v * 10 + d) / 10)) _
-    ∙ ap (λ q. map (λ e. 48 + e) (digits_of 10 q) ++ ((48 + (v * 10 + d) % 10) ∷ [])) (digits_div v l)
-    ∙ ap (λ q. map (λ e. 48 + e) (digits_of 10 v) ++ ((48 + q) ∷ [])) (digits_mod v l)
+    ∙ ap (λ q. map (λ e. 48 + e) (digits_of 10 q) ++ ((48 + (v * 10 + d) % 10) ∷ [])) (div-mul-add v 10 d l)
+    ∙ ap (λ q. map (λ e. 48 + e) (digits_of 10 v) ++ ((48 + q) ∷ [])) (mod-mul-add v 10 d l)
     ∙ ap (λ xs. xs ++ ((48 + d) ∷ [])) (sym (natural_above v h))
 
 one_digit : (d : ℕ) → 0 < d → d < 10 → natural d ≡ (48 + d) ∷ []
@@ -41,23 +31,6 @@ one_digit d h l =
     let q : d / 10 ≡ 0 = omega arith in
     let r : d % 10 ≡ d = omega arith in
     natural_above d h ∙ ap (map (λ e. 48 + e)) (digits_of_step 10 d (omega arith) h ∙ ap (λ x. digits_of 10 x ++ (d % 10 ∷ [])) q ∙ ap (λ x. x ∷ []) r)
-
--- the numeral of zero, of a number that is not below it, and of one that is
-pub numeral_zero : (z : ℤ) → nat_abs z ≡ 0 → numeral z ≡ 48 ∷ []
-unfolding numeral natural
-numeral_zero (pos zero) h = refl
-numeral_zero (pos (suc n)) h = absurd (omega arith)
-numeral_zero (negsuc n) h = absurd (omega arith)
-
-pub numeral_plus : (z : ℤ) → pos 0 ≤ℤ z → numeral z ≡ natural (nat_abs z)
-unfolding numeral
-numeral_plus (pos n) h = refl
-numeral_plus (negsuc n) h = absurd (omega (arith, ints))
-
-pub numeral_minus : (z : ℤ) → z <ℤ pos 0 → numeral z ≡ 45 ∷ natural (nat_abs z)
-unfolding numeral
-numeral_minus (pos n) h = absurd (omega (arith, ints))
-numeral_minus (negsuc n) h = refl
 
 -- what is read is what is written
 digit_is : (c : ℕ) → digit c ≡ true → (48 ≤ c) × (c ≤ 57)

@@ -60,6 +60,14 @@ halves p = option_map (λ h. (h.0, h.1, p.1)) (parted 61 p.0)
 abbrev pub next_field : Rest → Option (List ℕ × List ℕ × Rest)
 next_field r = then (next r) halves
 
+-- What is left once the next field is taken; a part that is no field is not taken.
+abbrev pub past_of : Rest → Option (List ℕ × List ℕ × Rest) → Rest
+past_of r None = r
+past_of r (Some f) = f.2
+
+abbrev pub past : Rest → Rest
+past r = past_of r (next_field r)
+
 -- Whether a value is a number part: it begins with a minus or a digit.
 abbrev pub numeric : List ℕ → Bool
 numeric [] = false

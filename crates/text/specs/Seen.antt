@@ -1,8 +1,8 @@
 -- What code holds of a line: parts of the text, by what they point to.
-use Rattle.std.specs.Prelude.{ℕ, Bool, true, false, List, ℤ, Option}
+use Rattle.std.specs.Prelude.{◌≡◌, ℕ, ◌+◌, Bool, true, false, List, length, Some, None, Option, IfSome}
 use Rattle.std.specs.Borrow.{Bor}
 use Rattle.std.specs.Option.{option_map}
-use Rattle.text.specs.Fields.{Rest}
+use Rattle.text.specs.Fields.{Rest, next_field, past, numeric}
 use Rattle.text.specs.declared.field.Field.{Field}
 use Rattle.text.specs.declared.field.Field.TheVariants.{Word, Number}
 use Rattle.text.specs.declared.field.Fields.{Fields}
@@ -35,18 +35,25 @@ abbrev pub is_number : Field → Bool
 is_number (Word n v l) = false
 is_number (Number n v l) = true
 
--- A field by its name and its value, and what is left.
-abbrev pub seen_field : Option (Field × Fields) → Option (List ℕ × List ℕ × Rest)
-seen_field r = option_map (λ p. (name_of p.0, value_of p.0, left p.1)) r
+-- The next field is taken off the line, and the cursor stays on its line.
+pub record Goes (before after : Fields) : Type 0 where
+  pub rest : left after ≡ past (left before)
+  pub line : after.line ≡ before.line
 
--- A part of the text, and what is left.
-abbrev pub seen_word : Option (Bor (List ℕ) × Fields) → Option (List ℕ × Rest)
-seen_word r = option_map (λ p. (p.0.now, left p.1)) r
+-- A reading of a line: it answers none where the definition gives none, else what the definition gives, and the cursor
+-- is at what the definition leaves. The next field is taken whatever is answered.
+pub record Took {X : Type 0} (read : Rest → Option (X × Rest)) (before : Fields) (answer : Option X) (after : Fields) : Type 0 where
+  pub value : option_map (λ x. (x, left after)) answer ≡ read (left before)
+  pub goes : Goes before after
 
--- A number, and what is left.
-abbrev pub seen_number : Option (ℤ × Fields) → Option (ℤ × Rest)
-seen_number r = option_map (λ p. (p.0, left p.1)) r
+-- The next field is answered, on the cursor's line and of its kind.
+pub record TookField (before : Fields) (answer : Option Field) (after : Fields) : Type 0 where
+  pub field : option_map (λ f. (name_of f, value_of f, left after)) answer ≡ next_field (left before)
+  pub kind : IfSome answer (λ f. is_number f ≡ numeric (value_of f))
+  pub line : IfSome answer (λ f. line_of f ≡ before.line)
+  pub goes : Goes before after
 
--- A number or none, and what is left.
-abbrev pub seen_number_or : Option (Option ℤ × Fields) → Option (Option ℤ × Rest)
-seen_number_or r = option_map (λ p. (p.0, left p.1)) r
+-- More than the fields that are left.
+abbrev pub size : Rest → ℕ
+size None = 0
+size (Some xs) = length xs + 1

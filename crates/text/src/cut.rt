@@ -1,6 +1,5 @@
-// Texts cut at a byte, and compared.
+// Texts cut at a byte.
 ghost use Rattle.std.specs.Prelude.{◌≡◌};
-ghost use Rattle.std.specs.Str.{bytes_eq};
 ghost use Rattle.text.specs.Fields.{parted};
 ghost use Rattle.text.specs.Seen.{seen_halves};
 
@@ -8,17 +7,6 @@ ghost use Rattle.text.specs.Seen.{seen_halves};
 pub fn cut<'a>(xs: &'a [u8], b: u8) -> Option<(&'a [u8], &'a [u8])>
     ensures { seen_halves result ≡ parted b xs.now }
 {
-    for i in 0..xs.len() {
-        if xs[i] == b {
-            return Some((&xs[0..i], &xs[i + 1..]));
-        }
-    }
-    None
-}
-
-// Whether two texts are the same, byte for byte.
-pub fn same(a: &[u8], b: &[u8]) -> bool
-    ensures { result ≡ bytes_eq a.now b.now }
-{
-    a == b
+    let at = xs.iter().position(|x| *x == b)?;
+    Some((&xs[..at], &xs[at + 1..]))
 }

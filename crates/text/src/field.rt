@@ -1,10 +1,11 @@
 // The fields of a line, taken one by one.
-ghost use Rattle.std.specs.Prelude.{◌≡◌, IfSome, Some};
+ghost use Rattle.std.specs.Prelude.{◌≡◌, ◌<◌, length, Some, IfSome};
+ghost use Rattle.std.specs.Iterator.{at_most};
 ghost use Rattle.std.specs.Option.{option_map};
-ghost use Rattle.text.specs.Fields.{numeric, next as next_part, next_field, word as word_of, number as number_of, number_or, last, one_ended, pair_ended};
-ghost use Rattle.text.specs.Seen.{left, name_of, value_of, line_of, is_number, seen_field, seen_word, seen_number, seen_number_or};
+ghost use Rattle.text.specs.Fields.{numeric, parted, cut_or, word as word_of, number as number_of, number_or, last, one_ended, pair_ended};
+ghost use Rattle.text.specs.Seen.{left, size, name_of, value_of, line_of, Took, TookField};
 
-use crate::cut::{cut, same};
+use crate::cut::cut;
 use crate::numeral::read_numeral;
 
 // A field as parts of the text, with its line; a value that begins with a digit or a minus is a number part.
@@ -55,7 +56,15 @@ impl<'a> Field<'a> {
 fn is_numeric(value: &[u8]) -> bool
     ensures { result ≡ numeric value.now }
 {
-    value.len() > 0 && (value[0] == b'-' || value[0] >= b'0' && value[0] <= b'9')
+    matches!(value, [b'-' | b'0'..=b'9', ..])
+}
+
+// The text up to the first space, and what follows the space, if there is one.
+fn part(text: &[u8]) -> (&[u8], Option<&[u8]>)
+    ensures parts { (result.0.now, option_map (λ x. x.now) result.1) ≡ cut_or text.now (parted 32 text.now) }
+    ensures shorter { IfSome result.1 (λ x. length x.now < length text.now) }
+{
+    cut(text, b' ').map_or((text, None), |(part, after)| (part, Some(after)))
 }
 
 // What is left of a line: nothing, or fields with one space between.
@@ -63,6 +72,27 @@ fn is_numeric(value: &[u8]) -> bool
 pub struct Fields<'a> {
     rest: Option<&'a [u8]>,
     line: u32,
+}
+
+// A part that is no field is not taken: it ends the fields, and the line is not at its end.
+impl<'a> Iterator for Fields<'a> {
+    type Item = Field<'a>;
+
+    ghost next_gives = { TookField };
+
+    ghost remaining = { λ s. at_most (size (left s)) };
+
+    fn next(&mut self) -> Option<Field<'a>> {
+        let (part, after) = part(self.rest?);
+        let (name, value) = cut(part, b'=')?;
+        self.rest = after;
+        let line = self.line;
+        if is_numeric(value) {
+            Some(Field::Number { name, value, line })
+        } else {
+            Some(Field::Word { name, value, line })
+        }
+    }
 }
 
 impl<'a> Fields<'a> {
@@ -77,105 +107,52 @@ impl<'a> Fields<'a> {
         }
     }
 
-    // The same line with this left of it.
-    fn leaving(self, rest: Option<&'a [u8]>) -> Fields<'a>
-        ensures rest { left result ≡ option_map (λ x. x.now) rest.entry }
-        ensures line { result.line ≡ self.entry.line }
+    // The value of the next field, where it has this name. The field is taken all the same.
+    pub fn word(&mut self, name: &[u8]) -> Option<&'a [u8]>
+        ensures { Took (word_of name.now) self.old (option_map (λ x. x.now) result) self.new }
     {
-        let line = self.line;
-        Fields { rest, line }
+        let field = self.next()?;
+        (field.name() == name).then_some(field.value())
     }
 
-    // The text up to the next space, and what is left.
-    fn part(self) -> Option<(&'a [u8], Fields<'a>)>
-        ensures part { seen_word result ≡ next_part (left self.entry) }
-        ensures line { IfSome result (λ p. p.1.line ≡ self.entry.line) }
+    // The number that the next field, which has this name, writes.
+    pub fn number(&mut self, name: &[u8]) -> Option<i32>
+        ensures { Took (number_of name.now) self.old result self.new }
     {
-        let xs = self.rest?;
-        match cut(xs, b' ') {
-            Some((w, q)) => Some((w, self.leaving(Some(q)))),
-            None => Some((xs, self.leaving(None))),
-        }
-    }
-
-    // The next field, and what is left.
-    pub fn next(self) -> Option<(Field<'a>, Fields<'a>)>
-        ensures field { seen_field result ≡ next_field (left self.entry) }
-        ensures kind { IfSome result (λ p. is_number p.0 ≡ numeric (value_of p.0)) }
-        ensures line { IfSome result (λ p. (line_of p.0 ≡ self.entry.line) × (p.1.line ≡ self.entry.line)) }
-    {
-        let (w, after) = self.part()?;
-        let (name, value) = cut(w, b'=')?;
-        let line = self.line;
-        if is_numeric(value) {
-            Some((Field::Number { name, value, line }, after))
-        } else {
-            Some((Field::Word { name, value, line }, after))
-        }
-    }
-
-    // The value of the next field, which has this name, and what is left.
-    pub fn word(self, name: &[u8]) -> Option<(&'a [u8], Fields<'a>)>
-        ensures word { seen_word result ≡ word_of name.now (left self.entry) }
-        ensures line { IfSome result (λ p. p.1.line ≡ self.entry.line) }
-    {
-        let (field, after) = self.next()?;
-        if same(field.name(), name) {
-            Some((field.value(), after))
-        } else {
-            None
-        }
-    }
-
-    // The number that the next field, which has this name, writes, and what is left.
-    pub fn number(self, name: &[u8]) -> Option<(i32, Fields<'a>)>
-        ensures number { seen_number result ≡ number_of name.now (left self.entry) }
-        ensures line { IfSome result (λ p. p.1.line ≡ self.entry.line) }
-    {
-        let (value, after) = self.word(name)?;
-        let z = read_numeral(value)?;
-        Some((z, after))
+        read_numeral(self.word(name)?)
     }
 
     // The same, or none where the field has the other word for its value.
-    pub fn number_or(self, name: &[u8], other: &[u8]) -> Option<(Option<i32>, Fields<'a>)>
-        ensures number { seen_number_or result ≡ number_or name.now other.now (left self.entry) }
-        ensures line { IfSome result (λ p. p.1.line ≡ self.entry.line) }
+    pub fn number_or(&mut self, name: &[u8], other: &[u8]) -> Option<Option<i32>>
+        ensures { Took (number_or name.now other.now) self.old result self.new }
     {
-        let (value, after) = self.word(name)?;
-        if same(value, other) {
-            return Some((None, after));
+        let value = self.word(name)?;
+        if value == other {
+            return Some(None);
         }
-        let z = read_numeral(value)?;
-        Some((Some(z), after))
+        read_numeral(value).map(Some)
     }
 
-    // Some exactly when nothing is left.
+    // Some exactly when nothing is left. Kept: an Option, since it stands in a row of readings joined by `?`.
     pub fn end(self) -> Option<()>
         ensures { result ≡ last tt (left self.entry) }
     {
-        match self.rest {
-            Some(_) => None,
-            None => Some(()),
-        }
+        self.rest.is_none().then_some(())
     }
 
     // The number of the one field that is left.
-    pub fn one_number(self, name: &[u8]) -> Option<i32>
+    pub fn one_number(mut self, name: &[u8]) -> Option<i32>
         ensures { result ≡ one_ended name.now (left self.entry) }
     {
-        let (z, after) = self.number(name)?;
-        after.end()?;
-        Some(z)
+        let number = self.number(name)?;
+        self.end()?;
+        Some(number)
     }
 
     // The numbers of the two fields that are left.
-    pub fn two_numbers(self, first: &[u8], second: &[u8]) -> Option<(i32, i32)>
+    pub fn two_numbers(mut self, first: &[u8], second: &[u8]) -> Option<(i32, i32)>
         ensures { result ≡ pair_ended first.now second.now (left self.entry) }
     {
-        let (y, rest) = self.number(first)?;
-        let (z, rest) = rest.number(second)?;
-        rest.end()?;
-        Some((y, z))
+        Some((self.number(first)?, self.one_number(second)?))
     }
 }

@@ -1,4 +1,3 @@
-use crate::cut::same;
 use crate::field::{Field, Fields};
 use crate::numeral::read_numeral;
 use std::test::Fail;
@@ -31,9 +30,9 @@ fn other_texts_are_not(rt: HostRuntime) {
 
 #[test]
 fn fields_are_taken(rt: HostRuntime) -> Result<(), Fail> {
-    let rest = Fields::of(b"node=par kids=2 need=-1", 3);
-    let (kind, rest) = rest.word(b"node").ok_or("no word")?;
-    assert!(rt; same(kind, b"par"));
+    let mut rest = Fields::of(b"node=par kids=2 need=-1", 3);
+    let kind = rest.word(b"node").ok_or("no word")?;
+    assert!(rt; kind == b"par".as_slice());
     assert_eq!(rt; rest.one_number(b"kids"), None);
     assert_eq!(rt; rest.two_numbers(b"need", b"kids"), None);
     assert_eq!(rt; rest.two_numbers(b"kids", b"need"), Some((2, -1)));
@@ -42,9 +41,10 @@ fn fields_are_taken(rt: HostRuntime) -> Result<(), Fail> {
 
 #[test]
 fn a_field_has_its_line(rt: HostRuntime) -> Result<(), Fail> {
-    let (field, rest) = Fields::of(b"key=a=b", 7).next().ok_or("no field")?;
+    let mut rest = Fields::of(b"key=a=b", 7);
+    let field = rest.next().ok_or("no field")?;
     assert_eq!(rt; rest.end(), Some(()));
-    assert!(rt; same(field.name(), b"key") && same(field.value(), b"a=b"));
+    assert!(rt; field.name() == b"key".as_slice() && field.value() == b"a=b".as_slice());
     assert_eq!(rt; field.line(), 7);
     match field {
         Field::Word { .. } => Ok(()),
@@ -54,10 +54,10 @@ fn a_field_has_its_line(rt: HostRuntime) -> Result<(), Fail> {
 
 #[test]
 fn a_word_for_no_number(rt: HostRuntime) -> Result<(), Fail> {
-    let rest = Fields::of(b"device=none key=4", 1);
-    let (device, rest) = rest.number_or(b"device", b"none").ok_or("no device")?;
+    let mut rest = Fields::of(b"device=none key=4", 1);
+    let device = rest.number_or(b"device", b"none").ok_or("no device")?;
     assert_eq!(rt; device, None);
-    let (key, rest) = rest.number_or(b"key", b"none").ok_or("no key")?;
+    let key = rest.number_or(b"key", b"none").ok_or("no key")?;
     assert_eq!(rt; key, Some(4));
     assert_eq!(rt; rest.end(), Some(()));
     Ok(())
@@ -68,4 +68,10 @@ fn one_space_between(rt: HostRuntime) {
     assert_eq!(rt; Fields::of(b"a=1  b=2", 1).two_numbers(b"a", b"b"), None);
     assert_eq!(rt; Fields::of(b"a=1 ", 1).one_number(b"a"), None);
     assert_eq!(rt; Fields::of(b"a=1", 1).one_number(b"a"), Some(1));
+}
+
+#[test]
+fn fields_end_where_no_field_is(rt: HostRuntime) {
+    assert_eq!(rt; Fields::of(b"a=1 b c=2", 1).count(), 1);
+    assert_eq!(rt; Fields::of(b"a=1 b= c=2", 1).count(), 3);
 }

@@ -65,15 +65,9 @@ static ENDS: [Case; 14] = [
 
 #[test]
 fn ends_have_their_verdicts(rt: HostRuntime) -> Result<(), Fail> {
-    let tally = judge_whole(&rt, rt.alloc(), b"", &TEXTS, b"")?;
+    let tally = judge_whole(&rt, b"", &TEXTS, b"")?;
     assert_eq!(rt; tally, [3, 12, 2, 0, 0, 0, 1, 0]);
-    let tally = judge_whole(
-        &rt,
-        rt.alloc(),
-        b"mission=1\ncounts=1\nabilities=0\n",
-        &ENDS,
-        b"",
-    )?;
+    let tally = judge_whole(&rt, b"mission=1\ncounts=1\nabilities=0\n", &ENDS, b"")?;
     assert_eq!(rt; tally, [0, 12, 1, 0, 0, 0, 1, 0]);
     Ok(())
 }

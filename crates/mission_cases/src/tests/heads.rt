@@ -99,7 +99,7 @@ static HEADS: [Case; 62] = [
 
 #[test]
 fn heads_have_their_verdicts(rt: HostRuntime) -> Result<(), Fail> {
-    let tally = judge_whole(&rt, rt.alloc(), b"", &HEADS, b"node=count key=0 least=0\n")?;
+    let tally = judge_whole(&rt, b"", &HEADS, b"node=count key=0 least=0\n")?;
     assert_eq!(rt; tally, [2, 45, 14, 0, 0, 0, 1, 0]);
     Ok(())
 }

@@ -68,7 +68,7 @@ static LINES: [Case; 56] = [
 
 #[test]
 fn lines_have_their_verdicts(rt: HostRuntime) -> Result<(), Fail> {
-    let tally = judge_nodes(&rt, rt.alloc(), b"", &LINES)?;
+    let tally = judge_nodes(&rt, b"", &LINES)?;
     assert_eq!(rt; tally, [0, 56, 0, 0, 0, 0, 0, 0]);
     Ok(())
 }

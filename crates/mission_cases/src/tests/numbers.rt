@@ -75,7 +75,7 @@ static NUMBERS: [Case; 55] = [
 
 #[test]
 fn numbers_have_their_verdicts(rt: HostRuntime) -> Result<(), Fail> {
-    let tally = judge_nodes(&rt, rt.alloc(), b"", &NUMBERS)?;
+    let tally = judge_nodes(&rt, b"", &NUMBERS)?;
     assert_eq!(rt; tally, [6, 12, 37, 0, 0, 0, 0, 0]);
     Ok(())
 }

@@ -1,5 +1,5 @@
 // What writing leaves in a page.
-use crate::tests::case::FRESH;
+use crate::tests::case::{FRESH, Trial, on_trial};
 use fault::layer::Layer;
 use fault::refusal::Refusal;
 use mission::mission::Mission;
@@ -14,79 +14,56 @@ const MORE: usize = 300;
 // not written yet: they stand in no text, and neighbours differ.
 fn page(heap: Global, text: &[u8], len: usize) -> Result<Vec<u8>, AllocError> {
     let mut page = Vec::from_slice(heap, text)?;
-    for i in text.len()..len {
-        page.push(128 + (i % 127) as u8)?;
-    }
+    page.extend((text.len()..len).map(|i| 128 + (i % 127) as u8))?;
     Ok(page)
 }
 
-// The mission's text is this one: on a page of its length, on a longer one, and on one that is a
-// byte short.
-pub(crate) fn check_writes(
-    rt: &impl Abort,
-    heap: Global,
-    mission: &Mission,
-    text: &[u8],
-    told: &str,
-) -> Result<(), Fail> {
-    check_fits(rt, heap, mission, text, text.len(), told)?;
-    check_fits(
-        rt,
-        heap,
-        mission,
-        text,
-        text.len().saturating_add(MORE),
-        told,
-    )?;
-    check_short(rt, heap, mission, text.len().saturating_sub(1), told)
-}
+impl<R: Abort + AllocGlobal> Trial<'_, R> {
+    // The mission's text is this one: on a page of its length, on a longer one, and on one that is a
+    // byte short.
+    pub(crate) fn check_writes(&self, mission: &Mission, text: &[u8]) -> Result<(), Fail> {
+        self.check_fits(mission, text, text.len())?;
+        self.check_fits(mission, text, text.len().saturating_add(MORE))?;
+        self.check_short(mission, text.len().saturating_sub(1))
+    }
 
-// On a page of this length the text stands first, and all past it is as found.
-fn check_fits(
-    rt: &impl Abort,
-    heap: Global,
-    mission: &Mission,
-    text: &[u8],
-    len: usize,
-    told: &str,
-) -> Result<(), Fail> {
-    let mut lent = page(heap, b"", len)?;
-    let written = match mission.write(lent.as_mut_slice()) {
-        Ok(written) => written,
-        Err(fault) => return Err(Fail::new(format_args!("error: {fault:?}: {told}"))),
-    };
-    assert_eq!(rt; written, text.len(), "{told}");
-    assert_eq!(rt; lent, page(heap, text, len)?, "{told}");
-    Ok(())
-}
+    // On a page of this length the text stands first, and all past it is as found.
+    fn check_fits(&self, mission: &Mission, text: &[u8], len: usize) -> Result<(), Fail> {
+        let rt = self.rt;
+        let told = self.told;
+        let mut lent = page(rt.alloc(), b"", len)?;
+        let written = mission.write(lent.as_mut_slice()).map_err(|fault| Fail::new(format_args!(
+            "error: {fault:?}: {told}"
+        )))?;
+        assert_eq!(rt; written, text.len(), "{told}");
+        assert_eq!(rt; lent, page(rt.alloc(), text, len)?, "{told}");
+        Ok(())
+    }
 
-// A page of this length is too short, and the whole of it is as found.
-fn check_short(
-    rt: &impl Abort,
-    heap: Global,
-    mission: &Mission,
-    len: usize,
-    told: &str,
-) -> Result<(), Fail> {
-    let mut lent = page(heap, b"", len)?;
-    let Err(fault) = mission.write(lent.as_mut_slice()) else {
-        return Err(Fail::new(format_args!("the text is written: {told}")));
-    };
-    assert_eq!(rt; (fault.number(), fault.line()), (21, 0), "{told}");
-    assert_eq!(rt; fault.layer(), Layer::Text, "{told}");
-    assert_eq!(rt; lent, page(heap, b"", len)?, "{told}");
-    Ok(())
+    // A page of this length is too short, and the whole of it is as found.
+    fn check_short(&self, mission: &Mission, len: usize) -> Result<(), Fail> {
+        let rt = self.rt;
+        let told = self.told;
+        let mut lent = page(rt.alloc(), b"", len)?;
+        let Err(fault) = mission.write(lent.as_mut_slice()) else {
+            return Err(Fail::new(format_args!("the text is written: {told}")));
+        };
+        assert_eq!(rt; (fault.number(), fault.line()), (21, 0), "{told}");
+        assert_eq!(rt; fault.layer(), Layer::Text, "{told}");
+        assert_eq!(rt; lent, page(rt.alloc(), b"", len)?, "{told}");
+        Ok(())
+    }
 }
 
 #[test]
 fn a_fresh_place_writes_one_condition(rt: HostRuntime) -> Result<(), Fail> {
-    let heap = rt.alloc();
     let place = Mission::new();
     assert_eq!(rt; (place.counts(), place.abilities()), (1, 0));
     assert_eq!(rt; (place.nodes().len(), place.skills()), (1, 0));
-    check_writes(&rt, heap, &place, FRESH, "a fresh place")?;
+    let trial = on_trial(&rt, "a fresh place");
+    trial.check_writes(&place, FRESH)?;
     for len in 0..FRESH.len() {
-        check_short(&rt, heap, &place, len, "a fresh place")?;
+        trial.check_short(&place, len)?;
     }
     Ok(())
 }

@@ -1,6 +1,6 @@
 // The largest trees: 256 nodes, 16 levels and 32 children, and one more of each.
 use crate::tests::case::Case::{Accepted, Refused};
-use crate::tests::case::{Case, Tally, accept, declared, judge, refuse};
+use crate::tests::case::{Case, Tally, declared, judge, on_trial};
 use mission::mission::Mission;
 use std::alloc::{AllocError, Global};
 use std::process::Abort;
@@ -152,18 +152,19 @@ static RUNS: [Run; 43] = [
 
 #[test]
 fn runs_have_their_verdicts(rt: HostRuntime) -> Result<(), Fail> {
-    let tally = judge_runs(&rt, rt.alloc(), &RUNS)?;
+    let tally = judge_runs(&rt, &RUNS)?;
     assert_eq!(rt; tally, [10, 3, 8, 5, 13, 1, 1, 2]);
     Ok(())
 }
 
 // Judges a table of runs.
-fn judge_runs(rt: &impl Abort, heap: Global, runs: &[Run]) -> Result<Tally, Fail> {
+fn judge_runs<R: Abort + AllocGlobal>(rt: &R, runs: &[Run]) -> Result<Tally, Fail> {
+    let heap = rt.alloc();
     let mut tally = [0; 8];
     for Run(above, times, line, case) in runs {
         let lines = with_run(heap, above, *times, line)?;
         let text = declared(heap, lines.as_slice(), case.text())?;
-        judge(rt, heap, text.as_slice(), case, &mut tally)?;
+        judge(rt, text.as_slice(), case, &mut tally)?;
     }
     Ok(tally)
 }
@@ -206,7 +207,7 @@ fn crowd(heap: Global, root: &[u8]) -> Result<Vec<u8>, AllocError> {
 fn a_text_of_256_nodes_is_accepted(rt: HostRuntime) -> Result<(), Fail> {
     let heap = rt.alloc();
     let text = crowd(heap, ROOT)?;
-    accept(&rt, heap, text.as_slice(), "256 nodes")?;
+    on_trial(&rt, "256 nodes").accept(text.as_slice())?;
     let mut place = Mission::new();
     place.read(text.as_slice())?;
     assert_eq!(rt; (place.counts(), place.abilities()), (32, 32));
@@ -220,13 +221,13 @@ fn a_line_more_or_less_is_refused(rt: HostRuntime) -> Result<(), Fail> {
     let mut text = crowd(heap, ROOT)?;
     let len = text.len();
     text.extend_from_slice(LAST)?;
-    refuse(&rt, heap, text.as_slice(), 1, 261, "a line more")?;
+    on_trial(&rt, "a line more").refuse(text.as_slice(), 1, 261)?;
     text.truncate(len.saturating_sub(1));
-    refuse(&rt, heap, text.as_slice(), 1, 260, "no last end")?;
+    on_trial(&rt, "no last end").refuse(text.as_slice(), 1, 260)?;
     text.truncate(len.saturating_sub(LAST.len()));
-    refuse(&rt, heap, text.as_slice(), 1, 260, "a line less")?;
+    on_trial(&rt, "a line less").refuse(text.as_slice(), 1, 260)?;
     let few = crowd(heap, b"node=seq kids=14\n")?;
-    refuse(&rt, heap, few.as_slice(), 3, 244, "places short")?;
+    on_trial(&rt, "places short").refuse(few.as_slice(), 3, 244)?;
     let many = crowd(heap, b"node=seq kids=16\n")?;
-    refuse(&rt, heap, many.as_slice(), 3, 260, "places over")
+    on_trial(&rt, "places over").refuse(many.as_slice(), 3, 260)
 }

@@ -94,7 +94,7 @@ static SKILLS: [Case; 52] = [
 
 #[test]
 fn skills_have_their_verdicts(rt: HostRuntime) -> Result<(), Fail> {
-    let tally = judge_nodes(&rt, rt.alloc(), b"node=skill ", &SKILLS)?;
+    let tally = judge_nodes(&rt, b"node=skill ", &SKILLS)?;
     assert_eq!(rt; tally, [7, 33, 12, 0, 0, 0, 0, 0]);
     Ok(())
 }

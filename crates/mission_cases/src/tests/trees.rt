@@ -330,7 +330,7 @@ static TREES: [Case; 75] = [
 
 #[test]
 fn trees_have_their_verdicts(rt: HostRuntime) -> Result<(), Fail> {
-    let tally = judge_nodes(&rt, rt.alloc(), b"", &TREES)?;
+    let tally = judge_nodes(&rt, b"", &TREES)?;
     assert_eq!(rt; tally, [8, 6, 11, 24, 0, 9, 9, 8]);
     Ok(())
 }

@@ -1,8 +1,17 @@
+-- A line of its form is judged by its ranges.
+use Rattle.std.proofs.Common.{rules, ◌≡◌, Some, None, Err, sym, ◌∙◌, subst}
+use Rattle.mission.specs.declared.flaw.Flaw.TheVariants.{Form}
+use Rattle.mission.specs.Lines.{line, ranged, raw, LineJudged}
 use Rattle.mission.proofs.LineForms.{judged, no_line}
 use Rattle.mission.proofs.line.judge_line.Goals as goal
 
-pub returns-in-Some : goal.returns-in-Some
-returns-in-Some c = judged c.args.text.now c.in-Some.raw c.node_of.result c.in-Some.ensures c.node_of.ensures
+pub returns-in_err-ok_or : goal.returns-in_err-ok_or
+returns-in_err-ok_or c =
+    let none : c.parse.result ≡ None = search rules in
+    let form : c.from_residual.result ≡ Err Form = search rules in
+    subst (LineJudged line ranged raw c.args.text.now) (sym form) (no_line c.args.text.now (sym none ∙ c.parse.ensures))
 
-pub returns-in-None : goal.returns-in-None
-returns-in-None c = no_line c.args.text.now c.in-None.ensures
+pub returns : goal.returns
+returns c =
+    let some : c.parse.result ≡ Some c.in_ok-ok_or.field-0 = search rules in
+    judged c.args.text.now c.in_ok-ok_or.field-0 c.node_of.result (sym some ∙ c.parse.ensures) c.node_of.ensures

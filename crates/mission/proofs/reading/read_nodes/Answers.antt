@@ -1,32 +1,18 @@
-use Rattle.std.proofs.Common.{◌≡◌, [], take, sym, refl, ◌∙◌, subst, arith}
-use Rattle.std.proofs.lemmas.List.{take_more_set, length-set, nil_from_length}
-use Rattle.text.proofs.Cuts.{parted_sound}
+use Rattle.std.proofs.Common.{take, sym, refl, subst, arith}
+use Rattle.std.proofs.lemmas.List.{take_more_set}
 use Rattle.mission.specs.Reading.{Taken}
 use Rattle.mission.proofs.NodeLines.{taken_push}
 use Rattle.mission.proofs.reading.read_nodes.Goals as goal
 
-pub loop-i-preserved : goal.loop-i-preserved
-loop-i-preserved c =
-    let start = c.args.start.now in
-    let i = c.loop-i.i in
-    let nodes = c.loop-i.nodes in
-    let n = c.in_ok-nodes.field-0 in
-    let l = c.in_ok-text.text.now in
-    let after = c.in_ok-text.after.now in
-    let long = c.loop-i.invariant.0 in
-    let got = c.in_ok-nodes.ensures in (
-      length-set nodes i n ∙ long,
-      subst (λ ns. Taken start ns after) (sym (take_more_set nodes i n (omega arith)))
-          (taken_push start (take i nodes) n c.loop-i.rest.now l after c.loop-i.invariant.1 (parted_sound 10 c.loop-i.rest.now (l, after) c.in_ok-text.ensures) got.0 got.1),
-    )
-
-pub returns : goal.returns
-returns c =
-    let all : c.loop-i.i ≡ c.args.len = omega arith in
-    let none = nil_from_length c.loop-i.rest.now (omega arith) in (
-      refl,
-      refl,
-      refl,
-      subst (λ i. Taken c.args.start.now (take i c.loop-i.nodes) []) all
-          (subst (λ r. Taken c.args.start.now (take c.loop-i.i c.loop-i.nodes) r) none c.loop-i.invariant.1),
-    )
+pub loop-node-preserved : goal.loop-node-preserved
+loop-node-preserved c =
+    let start = c.args.lines.now.rest.now in
+    let i = c.loop-node.node-index in
+    let nodes = c.loop-node.nodes in
+    let node = c.in_ok-node.field-0 in
+    let got = c.in_ok-node.ensures in
+    record {
+      taken = subst (λ ns. Taken start ns c.read_node.new.lines.rest.now) (sym (take_more_set nodes i node (omega arith)))
+          (taken_push start (take i nodes) node c.loop-node.lines.rest.now _ c.read_node.new.lines.rest.now c.loop-node.invariant.taken got.0 refl got.1);
+      line = omega (arith, got.2);
+    }

@@ -1,6 +1,10 @@
-use Rattle.std.proofs.Common.{◌≡◌, length, take}
+-- The places so far hold the nodes of the lines that were taken.
+use Rattle.std.proofs.Common.{◌≡◌, ◌+◌, take}
 use Rattle.mission.specs.Reading.{Taken}
 use Rattle.mission.proofs.reading.read_nodes.Given as goal
 
-abbrev pub invariant-loop-i : goal.invariant-loop-i
-invariant-loop-i l = (length l.nodes ≡ 256) × Taken l.start (take l.i l.nodes) l.rest
+abbrev pub invariant-loop-node : goal.invariant-loop-node
+invariant-loop-node l = record {
+  taken : Taken l.fn.lines.rest.now (take l.node-index l.nodes) l.lines.rest.now;
+  line : l.lines.line ≡ l.fn.lines.line + l.node-index;
+}

@@ -1,10 +1,8 @@
-use Rattle.std.proofs.Common.{◌∷◌, ◌++◌, ap, ◌∙◌}
-use Rattle.text.proofs.Cuts.{parted_sound}
+use Rattle.std.proofs.Common.{rules, pos}
+use Rattle.mission.proofs.LineReadings.{number_read}
 use Rattle.mission.proofs.reading.read_number.Goals as goal
 
-pub returns-in-Ok : goal.returns-in-Ok
-returns-in-Ok c =
-    let l = c.in_ok-text.text.now in
-    let after = c.in_ok-text.after.now in
-    let j = c.in-Ok.ensures in
-    (parted_sound 10 c.args.rest.now (l, after) c.in_ok-text.ensures ∙ ap (λ y. y ++ (10 ∷ after)) j.0, j.1)
+pub returns : goal.returns
+returns g c =
+    number_read g.T.TryFrom.try_from_gives c.args.name.now (pos c.args.low) (pos c.args.high) c.args.lines.now c.take.new.self (c.in_ok-text.text, c.in_ok-text.line) c.declared_number.result c.map_err.result
+    c.in_ok-text.ensures c.declared_number.ensures (search rules)

@@ -1,49 +1,44 @@
-use Rattle.std.proofs.Common.{◌≡◌, ℕ, ◌+◌, ◌<◌, List, [], ◌∷◌, ◌++◌, map, length, take, pos, sym, ap, ◌∙◌, subst, append_assoc, append-nil, arith}
+use Rattle.std.proofs.Common.{◌≡◌, ℕ, ◌+◌, ◌<◌, List, [], ◌∷◌, ◌++◌, map, length, take, get_or, pos, sym, refl, ap, ◌∙◌, arith, rules}
 use Rattle.std.proofs.lemmas.List.{map-append, take_more, take_all}
 use Rattle.mission.specs.declared.node.Node.{Node}
-use Rattle.mission.specs.declared.node.Node.TheVariants.{Not}
-use Rattle.mission.specs.Pages.{Laid}
-use Rattle.mission.specs.Pieces.{end}
-use Rattle.mission.specs.Places.{node_at}
+use Rattle.mission.specs.Pages.{wrote}
 use Rattle.mission.specs.Shapes.{shape}
-use Rattle.mission.specs.Texts.{ended, head_line, counts_line, abilities_line, nodes_line, node_line, lines, text}
-use Rattle.mission.proofs.Laying.{laid_then, laid_none}
-use Rattle.mission.proofs.NodeLines.{ended_push, ended_append}
+use Rattle.mission.specs.Texts.{ended, head_line, counts_line, abilities_line, nodes_line, node_line, text}
+use Rattle.mission.proofs.Laying.{and_then, laid_text, same_name}
+use Rattle.mission.proofs.NodeLines.{ended_both}
 use Rattle.mission.proofs.Runs.{shape_long}
 use Rattle.mission.proofs.writing.lay.Goals as goal
 
-pub loop-i-init : goal.loop-i-init
-loop-i-init c = (laid_none c.put_head-at.new.page c.put_head-at.result, (let s = c.put_head-at.ensures.short in omega arith))
+pub loop-node-init : goal.loop-node-init
+unfolding wrote
+loop-node-init c = refl
 
 -- one line more
-more : (ns : List Node) (i : ℕ) (n : Node) → i < length ns → n ≡ node_at ns i → ended (map node_line (take i ns)) ++ (node_line n ++ end) ≡ ended (map node_line (take (i + 1) ns))
+more : (ns : List Node) (i : ℕ) (n : Node) → i < length ns → n ≡ get_or ns i n → ended (map node_line (take i ns)) ++ (node_line n ++ (10 ∷ [])) ≡ ended (map node_line (take (i + 1) ns))
 more ns i n h e =
-    sym (ended_push (map node_line (take i ns)) (node_line n) []) ∙ append-nil _
-    ∙ ap ended (sym (map-append node_line (take i ns) (n ∷ []))) ∙ ap (λ m. ended (map node_line (take i ns ++ (m ∷ [])))) e
-    ∙ ap (λ xs. ended (map node_line xs)) (sym (take_more ns i Not h))
+    let next : take (i + 1) ns ≡ take i ns ++ (n ∷ []) = take_more ns i n h ∙ ap (λ m. take i ns ++ (m ∷ [])) (sym e) in
+    rw next (rw (map-append node_line (take i ns) (n ∷ [])) (ended_both (map node_line (take i ns)) (node_line n ∷ [])))
 
-pub loop-i-preserved : goal.loop-i-preserved
-loop-i-preserved c =
-    let o = c.args.outline.now in
-    let ns = (shape o).nodes in
-    let i = c.loop-i.i in
-    let l = shape_long o in (
-      subst (λ bs. Laid c.put_head-at.new.page c.put_head-at.result bs c.put_node-at.new.page c.put_node-at.result)
-          (more ns i c.node.result (omega arith) c.node.ensures)
-          (laid_then (ended (map node_line (take i ns))) (node_line c.node.result ++ end) c.loop-i.invariant.0 c.put_node-at.ensures.page),
-      (let s = c.put_node-at.ensures.short in let b = c.loop-i.invariant.1 in omega arith),
-    )
+pub loop-node-preserved : goal.loop-node-preserved
+loop-node-preserved c =
+    let ns = take c.from.result c.args.outline.now.nodes in
+    let i = c.loop-node.node-index in
+    and_then _ _ _ _ _ c.loop-node.invariant (and_then _ _ _ _ _ c.line.ensures c.put.ensures) ∙ ap (wrote c.head.new.self) (more ns i c.node-item.result (omega arith) c.node-item.is)
 
 pub returns : goal.returns
 returns c =
     let o = c.args.outline.now in
     let ns = (shape o).nodes in
+    let p = c.over-pen.result in
     let l = shape_long o in
     let heads = head_line tt ∷ counts_line (pos o.counts) ∷ abilities_line (pos o.abilities) ∷ nodes_line (pos o.len) ∷ [] in
-    let all : take c.loop-i.i ns ≡ ns = take_all c.loop-i.i ns (omega arith) in
-    let is : ended heads ++ ended (map node_line (take c.loop-i.i ns)) ≡ text (shape o) =
-    ap (λ xs. ended heads ++ ended (map node_line xs)) all
-    ∙ sym (append-nil _) ∙ append_assoc (ended heads) (ended (map node_line ns)) [] ∙ ended_append heads (map node_line ns) [] ∙ append-nil _
-    ∙ ap (λ n. ended (lines o.counts o.abilities n ns)) (sym l) in
-    subst (λ bs. Laid c.args.page.now 0 bs c.loop-i.page c.loop-i.at) is
-    (laid_then (ended heads) (ended (map node_line (take c.loop-i.i ns))) c.put_head-at.ensures.page c.loop-i.invariant.0)
+    let laid_nodes = take c.from.result o.nodes in
+    let same : laid_nodes ≡ ns = ap (λ k. take k o.nodes) c.from.ensures in
+    let all : take c.loop-node.node-index laid_nodes ≡ ns = take_all c.loop-node.node-index laid_nodes (omega arith) ∙ same in
+    let is : ended heads ++ ended (map node_line (take c.loop-node.node-index laid_nodes)) ≡ text (shape o) = rw all (rw l (ended_both heads (map node_line ns))) in
+    let whole : c.loop-node.pen ≡ wrote p (text (shape o)) = and_then _ _ _ _ _ c.head.ensures c.loop-node.invariant ∙ ap (wrote p) is in
+    let name = ap (λ x. x.page.ghost_name) whole ∙ same_name p (text (shape o)) ∙ ap (λ x. x.ghost_name) c.over-pen.ensures.page in
+    let page = ap (λ x. x.now) c.over-pen.ensures.page in
+    let long = ap length page in
+    let laid = laid_text p c.loop-node.pen (text (shape o)) (omega arith) c.over-pen.ensures.place whole in
+    search rules

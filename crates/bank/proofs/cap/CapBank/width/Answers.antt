@@ -1,5 +1,5 @@
 use Rattle.std.proofs.Common.{sym, ◌∙◌}
-use Rattle.bank.specs.Caps.{caps_length}
+use Rattle.bank.specs.CapSounds.{caps_length}
 use Rattle.bank.proofs.cap.CapBank.width.Goals as goal
 
 pub returns : goal.returns

@@ -1,38 +1,12 @@
-use Rattle.std.proofs.Common.{refl, ap, ◌∙◌, arith}
-use Rattle.bank.specs.Pairing.{paired}
-use Rattle.bank.specs.Skills.{halt_reply, struck}
-use Rattle.bank.specs.Pairs.{asked_first, asked_second, asked_neither, leaves_first, leaves_second}
+use Rattle.std.proofs.Common.{sym, ◌∙◌}
+use Rattle.bank.proofs.PairCalls.{first_leaves, second_leaves}
+use Rattle.bank.specs.Skills.{struck}
 use Rattle.bank.proofs.pair.PairBank.halt.Goals as goal
 
-pub returns-then-k-ge64 : goal.returns-then-k-ge64
-returns-then-k-ge64 g c =
-    let p = c.args.self.now in
-    record {
-      answer = asked_neither (g.F.Bank.skills p.first) (g.S.Bank.skills p.second) c.args.k halt_reply (omega arith);
-      after = refl;
-    }
+pub returns-in-None-clause-after : goal.returns-in-None-clause-after
+returns-in-None-clause-after g c =
+    first_leaves _ (g.S.Bank.skills c.args.self.now.second) c.args.k struck c.halt.result _ (sym c.in_second.ensures ∙ c.in-None.is) c.halt.ensures.after
 
-pub returns-then-k-split : goal.returns-then-k-split
-returns-then-k-split g c =
-    let p = c.args.self.now in
-    let a = g.F.Bank.skills p.first in
-    let b = g.S.Bank.skills p.second in
-    record {
-      answer = c.halt.ensures.answer ∙ asked_first a b c.args.k halt_reply (omega (arith, c.width-split.ensures)) (omega arith);
-      after =
-          ap (λ l. paired l b) c.halt.ensures.after
-          ∙ leaves_first a b c.args.k struck c.halt.result (omega (arith, c.width-split.ensures)) (omega arith);
-    }
-
-pub returns : goal.returns
-returns g c =
-    let p = c.args.self.now in
-    let a = g.F.Bank.skills p.first in
-    let b = g.S.Bank.skills p.second in
-    let n = c.width-split.result in
-    record {
-      answer = c.halt-2.ensures.answer ∙ asked_second a b c.args.k halt_reply n c.width-split.ensures (omega arith) (omega arith);
-      after =
-          ap (paired a) c.halt-2.ensures.after
-          ∙ leaves_second a b c.args.k struck c.halt-2.result n c.width-split.ensures (omega arith) (omega arith);
-    }
+pub returns-in-Some-clause-after : goal.returns-in-Some-clause-after
+returns-in-Some-clause-after g c =
+    second_leaves (g.F.Bank.skills c.args.self.now.first) _ c.args.k struck c.halt-in-Some.result c.in-Some.at _ (sym c.in_second.ensures ∙ c.in-Some.is) c.halt-in-Some.ensures.after

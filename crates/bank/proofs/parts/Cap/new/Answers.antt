@@ -1,6 +1,6 @@
 use Rattle.std.proofs.Common.{refl, ap, ◌∙◌, arith}
 use Rattle.bank.specs.Capping.{capped_skills}
-use Rattle.bank.specs.CapSounds.{held_zero}
+use Rattle.bank.proofs.Caps.{held_zero}
 use Rattle.bank.proofs.Halts.{capped_all_idle}
 use Rattle.bank.proofs.parts.Cap.new.Goals as goal
 

@@ -1,8 +1,8 @@
-use Rattle.std.proofs.Common.{◌+ℤ◌, sym, arith}
-use Rattle.std.proofs.lemmas.Int.{ints}
-use Rattle.entry.proofs.Making.{count_there}
+use Rattle.std.proofs.Common.{◌+ℤ◌, ◌∙◌, rules}
+use Rattle.entry.proofs.Making.{count_answered}
 use Rattle.entry.proofs.count.CountEntry.take.Goals as goal
 
-pub returns-then-value-le1000000 : goal.returns-then-value-le1000000
-returns-then-value-le1000000 c =
-    sym (count_there (c.args.self.value +ℤ c.args.share.value) _ (omega (arith, ints)))
+pub returns : goal.returns
+returns c =
+    c.ok.ensures.value
+    ∙ count_answered _ (c.args.self.value +ℤ c.args.share.value) c.new.result (search rules) c.new.ensures

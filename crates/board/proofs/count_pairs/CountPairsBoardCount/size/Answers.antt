@@ -1,9 +1,0 @@
-use Rattle.std.proofs.Common.{take, sym}
-use Rattle.board.specs.declared.pair.CountPair.{CountPair}
-use Rattle.board.specs.LayingLemmas.{length_laid}
-use Rattle.board.proofs.count_pairs.CountPairsBoardCount.size.Goals as goal
-
-pub returns : goal.returns
-returns c =
-    let b = c.args.self.now in
-    sym (length_laid (λ (p : CountPair). p.key) (λ p. p.held) b.size (take b.used b.table))

@@ -1,9 +1,0 @@
-use Rattle.std.proofs.Common.{◌≡◌, ◌+◌, take, drop}
-use Rattle.board.specs.Kinds.{count_place}
-use Rattle.board.proofs.parts.CountPairs.place.Given as goal
-
--- the place in what is left is the place in the whole
-abbrev pub invariant-loop-i : goal.invariant-loop-i
-invariant-loop-i l =
-    l.i + count_place l.key (drop l.i (take l.self.used l.self.table))
-    ≡ count_place l.key (take l.self.used l.self.table)

@@ -1,6 +1,6 @@
 #!/usr/bin/env bash
-# The places that docs/DESIGN-PASS.md counts, by form: run it at the top of the repository, with a
-# number from 1 to 8 for one form, with 'list' after it for the lines themselves.
+# The places that docs/DESIGN-PASS.md counts, by form: with no argument their numbers, with a number
+# from 1 to 8 the lines of that form.
 set -uo pipefail
 cd "$(dirname "${BASH_SOURCE[0]}")/.."
 

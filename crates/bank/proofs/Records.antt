@@ -1,10 +1,10 @@
 -- The takes given for a skill: those that a search finds, and what calls leave of them.
-use Rattle.std.proofs.Common.{◌≡◌, ℕ, zero, suc, ◌+◌, ◌<◌, ◌≤◌, Bool, true, false, cond, not, eqb, ltb, List, [], ◌∷◌, length, get_or, drop, Some, None, Ok, Err, Result, refl, sym, ap, ◌∙◌, ⊎_elim, arith}
+use Rattle.std.proofs.Common.{◌≡◌, ℕ, zero, suc, ◌+◌, ◌-◌, ◌<◌, ◌≤◌, Bool, true, false, eqb, List, [], ◌∷◌, length, get_or, drop, None, Ok, Err, Result, refl, sym, ap, ◌∙◌, arith}
 use Rattle.std.proofs.Math.Path.{fun_ext}
-use Rattle.std.specs.List.{position, position_or_len}
-use Rattle.std.proofs.lemmas.List.{drop-drop, get_or-drop, drop_all}
-use Rattle.std.proofs.lemmas.List.Quantifiers.{position-Some}
-use Rattle.std.proofs.lemmas.Bool.{cond-true, cond-false, cases_lt, cases_Bool, lt-ltb}
+use Rattle.std.specs.List.{AllWithin, HoldsAt, enumerate_from}
+use Rattle.std.proofs.lemmas.List.{drop-drop, get_or-drop, length-drop, drop_all}
+use Rattle.std.proofs.lemmas.List.FromFn.{length-enumerate_from, get_or-enumerate_from}
+use Rattle.std.proofs.lemmas.Bool.{cond-true, cond-false}
 use Rattle.bank.specs.declared.bank_fault.BankFault.{BankFault}
 use Rattle.bank.specs.declared.kinds.Ending.TheVariants.{Fail}
 use Rattle.bank.specs.declared.parts.FirstTake.{FirstTake}
@@ -31,22 +31,9 @@ module _ (rows : List GivenTake) (s : RecordedSkill) (f : FirstTake) where
 abbrev pub is_for : ℕ → GivenTake → Bool
 is_for k t = eqb t.skill k
 
-past_given : (k : ℕ) (rows : List GivenTake) → length rows ≤ position_or_len (is_for k) rows → given_takes k rows ≡ (λ _. no_take)
-past_given k [] h = refl
-past_given k (t ∷ rows) h =
-    let n = position_or_len (is_for k) rows in
-    ⊎_elim
-    (λ e. absurd (omega (arith, ap (λ b. cond (not b) (1 + n) 0) e)))
-    (λ e. cond-false (is_for k t) _ _ e ∙ past_given k rows (omega (arith, ap (λ b. cond (not b) (1 + n) 0) e)))
-    (cases_Bool (is_for k t))
-
-none_given : (k : ℕ) (rows : List GivenTake) → position (is_for k) rows ≡ None → given_takes k rows ≡ (λ _. no_take)
-none_given k rows e =
-    let n = position_or_len (is_for k) rows in
-    ⊎_elim
-    (λ h. let s : cond (ltb n (length rows)) (Some n) None ≡ Some n = cond-true (ltb n (length rows)) _ _ (lt-ltb n (length rows) h) in absurd (cc))
-    (past_given k rows)
-    (cases_lt n (length rows))
+none_given : (k : ℕ) (rows : List GivenTake) → ((j : ℕ) (d : GivenTake) → j < length rows → is_for k (get_or rows j d) ≡ false) → given_takes k rows ≡ (λ _. no_take)
+none_given k [] none = refl
+none_given k (t ∷ rows) none = cond-false (is_for k t) _ _ (none 0 t (omega arith)) ∙ none_given k rows (λ j d l. none (suc j) d (omega arith))
 
 first_given : (k : ℕ) (rows : List GivenTake) (i : ℕ) (d : GivenTake) → i < length rows → is_for k (get_or rows i d) ≡ true → ((j : ℕ) → j < i → is_for k (get_or rows j d) ≡ false)
     → given_takes k rows ≡ front (take_of (get_or rows i d).take) (given_takes k (drop (suc i) rows))
@@ -64,21 +51,43 @@ module _ (k : ℕ) (rows : List GivenTake) (from : ℕ) (f : FirstTake) (next : 
   abbrev made : Skill
   made = recorded_skill rows (record { skill = k; first = f; next = next })
 
-  pub idle_found : (at : ℕ) (d : GivenTake) → position (is_for k) (drop from rows) ≡ Some at → f.take ≡ (get_or rows (from + at) d).take → f.given ≡ None
-      → next ≡ suc (from + at) → made ≡ given_skill (drop from rows) k
-  idle_found at d p t idle n =
-      let here = get_or (drop from rows) at d in
-      let s = position-Some (is_for k) (drop from rows) at d p in
-      let g = first_given k (drop from rows) at d s.0 s.1 s.2 in
-      let later : drop next rows ≡ drop (suc at) (drop from rows) = ap (λ i. drop i rows) {y = from + suc at} (omega arith) ∙ sym (drop-drop (suc at) from rows) in
-      ap (λ (x : StoredTake). skill_of (front (take_of x) (given_takes k (drop next rows))) f.given) (t ∙ ap (λ (x : GivenTake). x.take) (sym (get_or-drop from rows at d)))
-      ∙ ap (λ l. skill_of (front (take_of here.take) (given_takes k l)) f.given) later
-      ∙ ap (λ x. skill_of x f.given) (sym g) ∙ ap (skill_of (given_takes k (drop from rows))) idle
+  abbrev later : List GivenTake
+  later = drop from rows
 
-  pub idle_past : position (is_for k) (drop from rows) ≡ None → f.take.runs ≡ 0 → f.take.ending ≡ Fail → f.given ≡ None → next ≡ length rows
-      → made ≡ given_skill (drop from rows) k
-  idle_past p r e idle n =
+  -- the rows from that one on, each with its number
+  abbrev numbered : List (ℕ × GivenTake)
+  numbered = drop from (enumerate_from 0 rows)
+
+  numbered_length : length numbered ≡ length later
+  numbered_length = length-drop from (enumerate_from 0 rows) ∙ ap (λ n. n - from) (length-enumerate_from 0 rows) ∙ sym (length-drop from rows)
+
+  numbered_at : (i : ℕ) (d : ℕ × GivenTake) → i < length numbered → get_or numbered i d ≡ (from + i, get_or later i d.1)
+  numbered_at i d h =
+      get_or-drop from (enumerate_from 0 rows) i d
+      ∙ get_or-enumerate_from 0 rows (from + i) d (omega (arith, h, length-drop from (enumerate_from 0 rows), length-enumerate_from 0 rows))
+      ∙ ap (λ (n : ℕ). (n, get_or rows (from + i) d.1)) {y = from + i} (omega arith) ∙ ap (λ (r : GivenTake). (from + i, r)) (sym (get_or-drop from rows i d.1))
+
+  not_before : (n : ℕ) → n ≤ length numbered → AllWithin (λ y. is_for k y.1 ≡ false) numbered 0 n → (j : ℕ) (d : GivenTake) → j < n → is_for k (get_or later j d) ≡ false
+  not_before n few none j d l = ap (λ (y : ℕ × GivenTake). is_for k y.1) (sym (numbered_at j (0, d) (omega (arith, few, l)))) ∙ none j (0, d) (omega arith) l
+
+  pub idle_found : (at : ℕ) (row : GivenTake) → is_for k row ≡ true → (i : ℕ) → i < length numbered → HoldsAt (λ y. y ≡ (at, row)) numbered i
+      → AllWithin (λ y. is_for k y.1 ≡ false) numbered 0 i → f.take ≡ row.take → f.given ≡ None → next ≡ suc at → made ≡ given_skill later k
+  idle_found at row its i h found none t idle n =
+      let e : (from + i, get_or later i row) ≡ (at, row) = sym (numbered_at i (at, row) h) ∙ found (at, row) in
+      let place : from + i ≡ at = ap (λ (y : ℕ × GivenTake). y.0) e in
+      let here : get_or later i row ≡ row = ap (λ (y : ℕ × GivenTake). y.1) e in
+      let few : i < length later = omega (arith, h, numbered_length) in
+      let g = first_given k later i row few (ap (is_for k) here ∙ its) (λ j l. not_before i (omega (arith, h)) none j row l) in
+      let past : drop next rows ≡ drop (suc i) later = ap (λ i. drop i rows) {y = from + suc i} (omega (arith, n, place)) ∙ sym (drop-drop (suc i) from rows) in
+      ap (λ (x : StoredTake). skill_of (front (take_of x) (given_takes k (drop next rows))) f.given) (t ∙ ap (λ (x : GivenTake). x.take) (sym here))
+      ∙ ap (λ l. skill_of (front (take_of (get_or later i row).take) (given_takes k l)) f.given) past
+      ∙ ap (λ x. skill_of x f.given) (sym g) ∙ ap (skill_of (given_takes k later)) idle
+
+  pub idle_past : AllWithin (λ y. is_for k y.1 ≡ false) numbered 0 (length numbered) → f.take.runs ≡ 0 → f.take.ending ≡ Fail → f.given ≡ None → next ≡ length rows
+      → made ≡ given_skill later k
+  idle_past none r e idle n =
       let t : take_of f.take ≡ no_take = ap (λ m. taking m f.take.ending) r ∙ ap (taking 0) e in
+      let all : (j : ℕ) (d : GivenTake) → j < length later → is_for k (get_or later j d) ≡ false = λ j d l. not_before (length numbered) (omega arith) none j d (omega (arith, l, numbered_length)) in
       ap (λ (x : Take). skill_of (front x (given_takes k (drop next rows))) f.given) t
       ∙ ap (λ l. skill_of (front no_take (given_takes k l)) f.given) (drop_all next rows (omega arith))
-      ∙ ap (λ x. skill_of x f.given) (fun_ext always ∙ sym (none_given k (drop from rows) p)) ∙ ap (skill_of (given_takes k (drop from rows))) idle
+      ∙ ap (λ x. skill_of x f.given) (fun_ext always ∙ sym (none_given k later all)) ∙ ap (skill_of (given_takes k later)) idle

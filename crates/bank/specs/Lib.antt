@@ -6,6 +6,7 @@ pub mod Capping
 pub mod Pairing
 pub mod Recording
 pub mod Laws
+pub mod Makes
 pub mod CapSounds
 pub mod Sounds
 pub mod Pairs

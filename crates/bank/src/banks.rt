@@ -6,6 +6,7 @@ use crate::bank_fault::BankFault;
 use crate::kinds::Reply;
 
 // Skills numbered from 0: `skills` is what a bank means.
+// Kept two clauses a call: most proofs cite one of them.
 pub trait Bank {
     ghost skills: { Self → List Skill };
 

@@ -1,8 +1,7 @@
 // A cap over any bank.
 ghost use Rattle.bank.specs.Capping.{capped_skills};
 ghost use Rattle.std.proofs.Common.{arith};
-ghost use Rattle.bank.specs.CapSounds.{caps_length};
-ghost use Rattle.bank.specs.CapSounds.{caps_sound};
+ghost use Rattle.bank.specs.CapSounds.{caps_length, caps_sound};
 
 use crate::bank_fault::BankFault;
 use crate::banks::Bank;

@@ -1,4 +1,5 @@
 // What banks, pairs and caps promise, each as the contract of a small function.
+// Kept: the clause `only` in the law of each call, since it is part of each theorem.
 ghost use Rattle.std.specs.Prelude.{◌≡◌, ◌+◌, ◌<◌, length, MatchResult};
 ghost use Rattle.bank.specs.Laws.{ChangesNoTake, OneAfterOther, OnlyAt, Shortens};
 ghost use Rattle.bank.specs.Skills.{asked, leaves, start_reply, poll_reply, halt_reply, started, polled, struck};
@@ -31,6 +32,7 @@ pub fn widest_cap<B: Bank>(below: B) -> Result<Cap<B>, Refused<B>>
     Cap::new(below, 60_000)
 }
 
+// Kept: one function for each call, which states the call's own theorem under a name to look up.
 // A start changes no other skill, and not the width.
 pub fn start_only<B: Bank>(bank: &mut B, k: u8) -> Result<(), BankFault>
     ensures answer { result ≡ asked start_reply (B.Bank.skills bank.old) k }

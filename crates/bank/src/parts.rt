@@ -50,6 +50,7 @@ pub struct Timed {
 }
 
 // One skill of a recorded bank: its first take, and the row from which its later takes are read.
+// Kept: `next` is an index. The rows are the bank's own, and no struct can lend a slice of its neighbour's field.
 #[derive(Clone, Copy, Default)]
 pub(crate) struct RecordedSkill {
     pub(crate) skill: u8,

@@ -1,7 +1,7 @@
 // The recorded bank: the takes given for each skill, in order, then fails.
-ghost use Rattle.std.specs.Prelude.{◌≡◌, true, false, MatchResult};
+ghost use Rattle.std.specs.Prelude.{◌≡◌, true};
+ghost use Rattle.bank.specs.Makes.{Makes};
 ghost use Rattle.bank.specs.Recording.{Holds, all_below, recordable, recorded_skill, recorded_skills, rows_of};
-ghost use Rattle.bank.specs.declared.bank_fault.BankFault.TheVariants.{OutOfRange};
 ghost use Rattle.std.proofs.Common.{arith};
 ghost use Rattle.std.proofs.lemmas.List.{length-map};
 ghost use Rattle.bank.specs.RecordSounds.{recorded_sound};
@@ -23,7 +23,7 @@ fn within(width: u8, takes: &[GivenTake]) -> bool
 impl Recorded {
     // A bank of these takes, every skill idle, or a refusal of a number out of range.
     pub fn new(width: u8, takes: &[GivenTake]) -> Result<Recorded, BankFault>
-        ensures { MatchResult result (λ b. (recordable width takes.now ≡ true) × Holds width takes.now (recorded_skills b)) (λ e. (e ≡ OutOfRange) × (recordable width takes.now ≡ false)) }
+        ensures { Makes result (recordable width takes.now) (λ b. (recordable width takes.now ≡ true) × Holds width takes.now (recorded_skills b)) }
     {
         if width > 64 || !within(width, takes) {
             return Err(BankFault::OutOfRange);
@@ -45,8 +45,7 @@ impl Bank for Recorded {
     ghost sound = { λ b k. map_sound (recorded_skill (rows_of b)) (recorded_sound (rows_of b)) b.table.items k };
 
     fn width(&self) -> u8 {
-        // Kept: 64 at most, so the cast is proved; TryFrom would bring a refusal that never comes.
-        self.table.len() as u8
+        u8::try_from(self.table.len()).unwrap()
     }
 
     fn running(&self, k: u8) -> bool {

@@ -1,6 +1,5 @@
 // One skill of a recorded bank, over the bank's rows.
-ghost use Rattle.std.specs.Prelude.{◌≡◌, ◌==◌, drop};
-ghost use Rattle.std.specs.List.{position};
+ghost use Rattle.std.specs.Prelude.{◌≡◌, drop};
 ghost use Rattle.bank.specs.Recording.{given_skill, recorded_skill};
 ghost use Rattle.bank.specs.Skills.{poll_reply, halt_reply, polled, struck, left_by};
 
@@ -8,23 +7,21 @@ use crate::bank_fault::BankFault;
 use crate::kinds::Reply;
 use crate::parts::{FirstTake, GivenTake, RecordedSkill};
 
-// How far past `from` the first row for the skill stands, if there is one.
-fn place_of(rows: &[GivenTake], skill: u8, from: usize) -> Option<usize>
-    ensures { result ≡ position (λ row. row.skill == skill) (drop from rows.now) }
-{
-    rows.iter().skip(from).position(|row| row.skill == skill)
-}
-
 impl RecordedSkill {
     // The skill idle, with the takes given for it from this row on.
     pub(crate) fn idle_from(rows: &[GivenTake], skill: u8, from: usize) -> RecordedSkill
         ensures { recorded_skill rows.now result ≡ given_skill (drop from rows.now) skill }
     {
-        match place_of(rows, skill, from) {
-            Some(at) => RecordedSkill {
+        let found = rows
+            .iter()
+            .enumerate()
+            .skip(from)
+            .find(|(_, row)| row.skill == skill);
+        match found {
+            Some((at, row)) => RecordedSkill {
                 skill,
-                first: FirstTake::idle(rows[from + at].take),
-                next: from + at + 1,
+                first: FirstTake::idle(row.take),
+                next: at + 1,
             },
             None => RecordedSkill {
                 skill,

@@ -1,34 +1,21 @@
 // Takes, and what calls make of a skill's first one.
-ghost use Rattle.std.specs.Prelude.{◌≡◌, false, None, MatchResult};
+ghost use Rattle.std.specs.Prelude.{◌≡◌, None};
+ghost use Rattle.bank.specs.Makes.{Makes};
 ghost use Rattle.bank.specs.Ranges.{in_range, mark_of};
-ghost use Rattle.bank.specs.declared.bank_fault.BankFault.TheVariants.{OutOfRange};
 ghost use Rattle.bank.specs.declared.kinds.Ending.TheVariants.{Fail};
-ghost use Rattle.bank.specs.Skills.{start_reply, poll_reply, halt_reply, started, polled, struck, left_by, runs_now};
-ghost use Rattle.bank.specs.Timing.{timed_skill};
+ghost use Rattle.bank.specs.Skills.{start_reply, poll_reply, halt_reply, started, polled, struck, runs_now};
+ghost use Rattle.bank.specs.Timing.{Called, timed_skill};
 
 use crate::bank_fault::BankFault;
 use crate::kinds::{Ending, Reply};
 use crate::parts::{FirstTake, Take};
 
-impl Ending {
-    // The mark of an ending, 0 where it fails.
-    fn mark(self) -> i8
-        ensures { result ≡ mark_of self }
-    {
-        match self {
-            Ending::Fail => 0,
-            Ending::Pass(mark) => mark,
-        }
-    }
-}
-
 impl Take {
     // This many runs, then this ending, or a refusal where one is out of range.
     pub(crate) fn new(runs: u16, ending: Ending) -> Result<Take, BankFault>
-        ensures { MatchResult result (λ t. (t.runs ≡ runs) × (t.ending ≡ ending)) (λ e. (e ≡ OutOfRange) × (in_range runs (mark_of ending) ≡ false)) }
+        ensures { Makes result (in_range runs (mark_of ending)) (λ t. (t.runs ≡ runs) × (t.ending ≡ ending)) }
     {
-        let mark = ending.mark();
-        if runs <= 60_000 && (-100..=100).contains(&mark) {
+        if runs <= 60_000 && matches!(ending, Ending::Fail | Ending::Pass(-100..=100)) {
             Ok(Take { runs, ending })
         } else {
             Err(BankFault::OutOfRange)
@@ -37,6 +24,7 @@ impl Take {
 }
 
 // No run, then a fail: the take past the last one given.
+// Kept written out, as for FirstTake: a struct with an invariant of its own derives no Default.
 impl Default for Take {
     ghost is_default = { λ t. (t.runs ≡ 0) × (t.ending ≡ Fail) };
 
@@ -74,9 +62,7 @@ impl FirstTake {
 
     // Puts the idle skill into its first take.
     pub(crate) fn start(&mut self) -> Result<(), BankFault>
-        ensures answer { result ≡ start_reply (timed_skill self.old) }
-        ensures after { timed_skill self.new ≡ left_by started result (timed_skill self.old) }
-        ensures same { self.new.take ≡ self.old.take }
+        ensures { Called start_reply started result self.old self.new }
     {
         if self.given.is_some() {
             return Err(BankFault::Running);
@@ -87,9 +73,7 @@ impl FirstTake {
 
     // One more run, or the ending of the take, and then the skill idle at the same take.
     pub(crate) fn poll(&mut self) -> Result<Reply, BankFault>
-        ensures answer { result ≡ poll_reply (timed_skill self.old) }
-        ensures after { timed_skill self.new ≡ left_by polled result (timed_skill self.old) }
-        ensures same { self.new.take ≡ self.old.take }
+        ensures { Called poll_reply polled result self.old self.new }
     {
         let given = self.given.ok_or(BankFault::Idle)?;
         if given < self.take.runs {
@@ -102,9 +86,7 @@ impl FirstTake {
 
     // The running skill idle at the same take.
     pub(crate) fn halt(&mut self) -> Result<(), BankFault>
-        ensures answer { result ≡ halt_reply (timed_skill self.old) }
-        ensures after { timed_skill self.new ≡ left_by struck result (timed_skill self.old) }
-        ensures same { self.new.take ≡ self.old.take }
+        ensures { Called halt_reply struck result self.old self.new }
     {
         self.given.take().ok_or(BankFault::Idle)?;
         Ok(())

@@ -28,26 +28,26 @@ enum Said {
     No,
 }
 
-fn done(res: Result<(), BankFault>) -> Said {
-    match res {
-        Ok(_) => Said::Done,
-        Err(fault) => Said::Refused(fault.number()),
-    }
+fn refused(fault: BankFault) -> Said {
+    Said::Refused(fault.number())
 }
 
-fn polled(res: Result<Reply, BankFault>) -> Said {
-    match res {
-        Ok(Reply::Run) => Said::Run,
-        Ok(Reply::Ended(Ending::Fail)) => Said::Failed,
-        Ok(Reply::Ended(Ending::Pass(mark))) => Said::Passed(mark),
-        Err(fault) => Said::Refused(fault.number()),
+fn done(res: Result<(), BankFault>) -> Said {
+    res.map_or_else(refused, |()| Said::Done)
+}
+
+fn replied(reply: Reply) -> Said {
+    match reply {
+        Reply::Run => Said::Run,
+        Reply::Ended(Ending::Fail) => Said::Failed,
+        Reply::Ended(Ending::Pass(mark)) => Said::Passed(mark),
     }
 }
 
 fn say<B: Bank>(bank: &mut B, call: Call) -> Said {
     match call {
         Call::Start(k) => done(bank.start(k)),
-        Call::Poll(k) => polled(bank.poll(k)),
+        Call::Poll(k) => bank.poll(k).map_or_else(refused, replied),
         Call::Halt(k) => done(bank.halt(k)),
         Call::Runs(k) => if bank.running(k) { Said::Yes } else { Said::No },
     }
@@ -77,11 +77,11 @@ fn recorded() -> Result<Recorded, BankFault> {
 }
 
 fn paired() -> Result<Pair<Recorded, Timed>, BankFault> {
-    Pair::new(recorded()?, timed()?).map_err(|refused| refused.fault)
+    Ok(Pair::new(recorded()?, timed()?)?)
 }
 
-fn capped(limit: u16) -> Result<Cap<Timed>, BankFault> {
-    Cap::new(timed()?, limit).map_err(|refused| refused.fault)
+fn capped<B: Bank + Drop>(below: B, limit: u16) -> Result<Cap<B>, BankFault> {
+    Ok(Cap::new(below, limit)?)
 }
 
 #[test]
@@ -187,9 +187,9 @@ fn a_pair_has_the_second_after_the_first(rt: HostRuntime) -> Result<(), Fail> {
 
 #[test]
 fn a_cap_cuts_longer_takes(rt: HostRuntime) -> Result<(), Fail> {
-    let mut below = capped(1)?;
-    let mut at = capped(2)?;
-    let mut above = capped(3)?;
+    let mut below = capped(timed()?, 1)?;
+    let mut at = capped(timed()?, 2)?;
+    let mut above = capped(timed()?, 3)?;
     play(
         &rt,
         &mut below,
@@ -220,7 +220,7 @@ fn a_cap_cuts_longer_takes(rt: HostRuntime) -> Result<(), Fail> {
 fn a_cap_halts_what_runs_below_a_pair(rt: HostRuntime) -> Result<(), Fail> {
     let mut pair = paired()?;
     assert_eq!(rt; done(pair.start(0)), Said::Done);
-    let mut bank = Cap::new(pair, 1).map_err(|refused| refused.fault)?;
+    let mut bank = capped(pair, 1)?;
     assert_eq!(rt; bank.width(), 4);
     play(
         &rt,
@@ -256,7 +256,7 @@ fn making_refuses_what_is_out_of_range(rt: HostRuntime) -> Result<(), Fail> {
         Recorded::new(4, &[take; 1024]).is_ok() && Recorded::new(4, &[take; 1025]).is_err()
     );
     assert!(rt; Recorded::new(3, &[take]).is_err() && Recorded::new(65, &[]).is_err());
-    assert!(rt; capped(60_000).is_ok() && capped(60_001).is_err());
+    assert!(rt; capped(timed()?, 60_000).is_ok() && capped(timed()?, 60_001).is_err());
     let wide = Pair::new(Timed::new(&[timing; 33])?, Timed::new(&[timing; 32])?);
     let refused = wide.err().ok_or("a pair of 65 skills is made")?;
     assert_eq!(rt; refused.given.0.width(), 33);

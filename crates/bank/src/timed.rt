@@ -35,8 +35,7 @@ impl Bank for Timed {
     ghost sound = { λ b k. map_sound timed_skill timed_sound b.table.items k };
 
     fn width(&self) -> u8 {
-        // Kept: 64 at most, so the cast is proved; TryFrom would bring a refusal that never comes.
-        self.table.len() as u8
+        u8::try_from(self.table.len()).unwrap()
     }
 
     fn running(&self, k: u8) -> bool {

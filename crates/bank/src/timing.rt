@@ -1,7 +1,7 @@
 // Passing takes for timed skills.
-ghost use Rattle.std.specs.Prelude.{◌≡◌, false, MatchResult};
+ghost use Rattle.std.specs.Prelude.{◌≡◌};
+ghost use Rattle.bank.specs.Makes.{Makes};
 ghost use Rattle.bank.specs.Ranges.{in_range};
-ghost use Rattle.bank.specs.declared.bank_fault.BankFault.TheVariants.{OutOfRange};
 ghost use Rattle.bank.specs.declared.kinds.Ending.TheVariants.{Pass};
 
 use crate::bank_fault::BankFault;
@@ -11,7 +11,7 @@ use crate::parts::{Take, Timing};
 impl Timing {
     // This many runs, then a pass with this mark, or a refusal where one is out of range.
     pub fn new(runs: u16, mark: i8) -> Result<Timing, BankFault>
-        ensures { MatchResult result (λ t. (t.take.runs ≡ runs) × (t.take.ending ≡ Pass mark)) (λ e. (e ≡ OutOfRange) × (in_range runs mark ≡ false)) }
+        ensures { Makes result (in_range runs mark) (λ t. (t.take.runs ≡ runs) × (t.take.ending ≡ Pass mark)) }
     {
         Ok(Timing {
             take: Take::new(runs, Ending::Pass(mark))?,

@@ -1,6 +1,7 @@
 -- Pairs laid over absent keys: what a key holds, and what a first and a later write leave.
 use Rattle.std.proofs.Common.{◌≡◌, ◌==◌, ℕ, ◌<◌, Bool, List, [], ◌∷◌, ◌++◌, length, get_or, set, Some, None, sym, refl, arith}
-use Rattle.std.specs.List.{position, position_or_len}
+use Rattle.std.specs.List.{find, position, position_or_len}
+use Rattle.std.specs.Option.{option_map}
 use Rattle.std.proofs.lemmas.Grind.{common_steps}
 use Rattle.std.proofs.lemmas.List.{get_or_past, set-set, set_comm}
 use Rattle.std.proofs.lemmas.List.Sums.{prefix_len-le-length}
@@ -26,6 +27,11 @@ module _ {E : Type 0} (size : ℕ) where
   laid_past : (k : ℕ) (ps : List (Pair E)) → position_or_len (λ p. p.key == k) ps ≡ length ps → at (laid size ps) k ≡ None
   laid_past k [] h = grind (arith, common_steps)
   laid_past k (p ∷ ps) h = grind (arith, common_steps, laid_past k ps)
+
+  -- what a search by key finds
+  pub laid_held : (k : ℕ) (ps : List (Pair E)) → k < size → option_map (λ p. p.held) (find (λ p. p.key == k) ps) ≡ at (laid size ps) k
+  laid_held k [] below = grind (arith, common_steps)
+  laid_held k (p ∷ ps) below = grind (arith, common_steps, laid_held k ps below, length_laid size ps)
 
   set_at : (q : Pair E) (ps : List (Pair E)) → position_or_len (λ p. p.key == q.key) ps < length ps → laid size (set ps (position_or_len (λ p. p.key == q.key) ps) q) ≡ set (laid size ps) q.key (Some q.held)
   set_at q [] h = absurd (omega arith)
@@ -55,4 +61,4 @@ module _ {E : Type 0} (size : ℕ) where
   laid_first q ps place = set_past q ps (not_placed (λ p. p.key == q.key) ps place)
 
 -- what a read needs
-pub ruleset reads = (length_laid, get_or_past, laid_found, laid_missing)
+pub ruleset reads = (length_laid, get_or_past, laid_held)

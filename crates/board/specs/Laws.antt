@@ -1,5 +1,5 @@
 -- What boards promise of writes and of marks.
-use Rattle.std.specs.Prelude.{◌≡◌, ℕ, ◌+◌, ◌<◌, ◌≤◌, true, List, length, replicate, ◌+ℤ◌, Some, None, Option, Result, MatchResult, ◌≢◌}
+use Rattle.std.specs.Prelude.{◌≡◌, ℕ, ◌+◌, ◌≤◌, true, List, length, replicate, ◌+ℤ◌, Some, None, Option, Result, MatchResult, ◌≢◌}
 use Rattle.entry.specs.declared.parts.Ability.{Ability}
 use Rattle.entry.specs.Kinds.{Count}
 use Rattle.entry.specs.Kinds.{Mark}
@@ -7,7 +7,8 @@ use Rattle.entry.specs.declared.parts.Weighed.{Weighed}
 use Rattle.entry.specs.Abilities.{gain}
 use Rattle.entry.specs.Ranges.{is_count}
 use Rattle.board.specs.declared.board_fault.BoardFault.{BoardFault}
-use Rattle.board.specs.declared.board_fault.BoardFault.TheVariants.{OutOfRange, Beyond}
+use Rattle.board.specs.declared.board_fault.BoardFault.TheVariants.{Beyond}
+use Rattle.board.specs.Faults.{TooLarge}
 use Rattle.board.specs.Meaning.{at}
 use Rattle.board.specs.Writes.{all_written}
 
@@ -22,7 +23,7 @@ abbrev pub ReadAlike : {E : Type 0} (size : ℕ) (writes : List (ℕ × E)) (k :
 ReadAlike size writes k r =
     MatchResult r
     (λ read. (read.0 ≡ read.1) × (read.0 ≡ at (all_written (replicate size None) writes) k))
-    (λ fault. (fault ≡ OutOfRange) × (32 < size))
+    (TooLarge size)
 
 -- every key but k reads as before, and the size is as before
 abbrev pub OnlyAt : {E : Type 0} (k : ℕ) (before after : List (Option E)) → Type 0

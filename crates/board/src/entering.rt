@@ -25,6 +25,7 @@ pub fn enter<E: Entry, B: Board<E>>(
     ensures answer { result ≡ entering E.Entry.taking (B.Board.entries board.old) key share }
     ensures after { B.Board.entries board.new ≡ entered E.Entry.making E.Entry.taking (B.Board.entries board.old) key share }
 {
+    // Kept: two `let .. else`. An absent and a full entry are outcomes and no errors: `?` has nothing to hand up.
     let Some(held) = board.read(key) else {
         board.write(key, E::first(share))?;
         return Ok(Entered::Made);

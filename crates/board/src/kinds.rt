@@ -50,6 +50,7 @@ impl<R: Copy> Table<R> for [R; 32] {
     }
 
     fn set(&mut self, at: usize, row: R) {
+        // Kept: a slice's `get_mut` promises what it lends, and not what the slice holds once that is written.
         if at < self.len() {
             self[at] = row;
         }

@@ -1,4 +1,5 @@
 // What the rules of boards promise, each as the contract of a small function.
+// Kept: the clause `only` in each law of a write or a mark, since it is part of each theorem.
 ghost use Rattle.std.specs.Prelude.{◌≡◌};
 ghost use Rattle.entry.specs.Abilities.{ability_makes, ability_takes};
 ghost use Rattle.entry.specs.Counts.{count_makes, count_takes};
@@ -54,6 +55,7 @@ pub fn entries_alike<E: Tabled>(
     Ok((cells.read(key), pairs.read(key)))
 }
 
+// Kept: two instances of `entries_alike`, each a public name for a reader to look up.
 // The law of cells and pairs, of counts.
 pub fn counts_alike(
     size: u8,
@@ -77,6 +79,7 @@ pub fn abilities_alike(
 }
 
 // A share entered on an entry that is not full makes of it what it takes, and touches no other key.
+// Kept: the law stands apart from `enter`, so that a caller of `enter` isn't handed it.
 pub fn enter_grows<E: Entry, B: Board<E>>(
     board: &mut B,
     key: u8,
@@ -90,6 +93,7 @@ pub fn enter_grows<E: Entry, B: Board<E>>(
     enter(board, key, share)
 }
 
+// Kept: one function for each kind, which states the kind's own arithmetic under a name to look up.
 // A mark entered on a count that is not full adds exactly it, and touches no other key.
 pub fn count_grows<B: Board<Count>>(
     board: &mut B,

@@ -10,6 +10,7 @@ pub mod laws;
 pub mod pair;
 pub mod pairs;
 pub mod parts;
+mod size;
 pub mod table;
 #[cfg(test)]
 mod tests;

@@ -4,15 +4,15 @@
 ghost use Rattle.std.specs.Prelude.{◌≡◌, ◌≤◌, length, take};
 ghost use Rattle.board.specs.Laying.{laid, present};
 
+use crate::size::Size;
 use crate::table::Tabled;
 use entry::parts::{Ability, Count};
 
 // Entries by key: the first `size` cells.
 #[derive(Drop)]
 pub struct Cells<E: Tabled> {
-    pub(crate) size: u8,
+    pub(crate) size: Size,
     pub(crate) table: E::Cells,
-    ghost few: { size ≤ 32 },
     ghost whole: { length (E.Cells.rows table) ≡ 32 },
 }
 
@@ -20,13 +20,12 @@ pub struct Cells<E: Tabled> {
 // keys that hold an entry, so there is room for every key.
 #[derive(Drop)]
 pub struct Pairs<E: Tabled> {
-    pub(crate) size: u8,
+    pub(crate) size: Size,
     pub(crate) used: u8,
     pub(crate) table: E::Pairs,
-    ghost few: { size ≤ 32 },
     ghost whole: { length (E.Pairs.rows table) ≡ 32 },
-    ghost within: { used ≤ size },
-    ghost once: { used ≡ present (laid size (take used (E.Pairs.rows table))) },
+    ghost within: { used ≤ size.value },
+    ghost once: { used ≡ present (laid size.value (take used (E.Pairs.rows table))) },
 }
 
 pub type CountCells = Cells<Count>;

@@ -10,6 +10,7 @@ pub enum Verb {
 }
 
 // The verb that a word names.
+// Kept a function: all it can say of another word is None, and a TryFrom would need an error type.
 pub fn verb_of(word: &[u8]) -> Option<Verb>
     ensures { result ≡ verb_named word.now }
 {

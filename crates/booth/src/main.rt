@@ -37,6 +37,7 @@ fn check(rt: &HostRuntime, text: &[u8]) -> anyhow::Result<ExitCode> {
             rt.println(refused_line(heap, &fault, words.as_str())?)?;
             Ok(ExitCode::FAILURE)
         }
+        // Kept: of the two causes this one alone is the program's own error, so it is handed up by itself.
         Err(Unjudged::OutOfMemory(error)) => Err(error.into()),
     }
 }

@@ -1,14 +1,14 @@
 -- Numbers in range make the entry with those numbers, and others make none.
-use Rattle.std.proofs.Common.{◌≡◌, ℕ, true, false, T, ℤ, Some, None, Result, Ok, Err, MatchResult, sym, refl, ap, ◌∙◌, arith}
+use Rattle.std.proofs.Common.{◌≡◌, ℕ, true, false, T, ℤ, Some, None, Result, Ok, Err, sym, refl, ap, ◌∙◌, arith}
 use Rattle.std.proofs.lemmas.Int.{ints}
 use Rattle.std.specs.Result.{result_ok}
 use Rattle.entry.specs.declared.entry_fault.EntryFault.{EntryFault}
-use Rattle.entry.specs.declared.entry_fault.EntryFault.TheVariants.{OutOfRange}
 use Rattle.entry.specs.Kinds.{Count, Mark, whole_in}
 use Rattle.entry.specs.declared.parts.Ability.{Ability}
 use Rattle.entry.specs.declared.parts.Weighed.{Weighed}
 use Rattle.entry.specs.Abilities.{ability_in, ability_of, ability_makes, gain}
 use Rattle.entry.specs.Counts.{count_of, count_makes}
+use Rattle.entry.specs.Makes.{Makes}
 use Rattle.entry.specs.Ranges.{within, is_ability, is_count}
 use Rattle.entry.proofs.Holding.{where_holds, where_fails, where_made}
 use Rattle.entry.proofs.Same.{same_ability, same_whole}
@@ -26,7 +26,7 @@ pub count_out : (z : ℤ) → is_count z ≡ false → count_of z ≡ None
 count_out z h = where_fails (is_count z) (whole_in 1000000 z) h
 
 -- what making a count answers, its refusal left out
-pub count_answered : (x z : ℤ) (r : Result Count EntryFault) → x ≡ z → MatchResult r (λ c. c.value ≡ x) (λ e. (e ≡ OutOfRange) × (is_count x ≡ false)) → result_ok r ≡ count_of z
+pub count_answered : (x z : ℤ) (r : Result Count EntryFault) → x ≡ z → Makes r (is_count x) (λ c. c.value ≡ x) → result_ok r ≡ count_of z
 count_answered x z (Ok c) e h = sym (count_there z c (h ∙ e))
 count_answered x z (Err f) e h = sym (count_out z (ap is_count (sym e) ∙ h.1))
 
@@ -57,7 +57,7 @@ pub ability_out : (m : ℤ) (w : ℕ) → is_ability m w ≡ false → ability_o
 ability_out m w h = where_fails (is_ability m w) (ability_in m w) h
 
 -- what making an ability answers, its refusal left out
-pub ability_answered : (x m : ℤ) (y w : ℕ) (r : Result Ability EntryFault) → x ≡ m → y ≡ w → MatchResult r (λ a. (a.marks ≡ x) × (a.weight ≡ y)) (λ e. (e ≡ OutOfRange) × (is_ability x y ≡ false)) → result_ok r ≡ ability_of m w
+pub ability_answered : (x m : ℤ) (y w : ℕ) (r : Result Ability EntryFault) → x ≡ m → y ≡ w → Makes r (is_ability x y) (λ a. (a.marks ≡ x) × (a.weight ≡ y)) → result_ok r ≡ ability_of m w
 ability_answered x m y w (Ok a) e f h = sym (ability_there m w a (h.0 ∙ e) (h.1 ∙ f))
 ability_answered x m y w (Err g) e f h = sym (ability_out m w (sym (λ i. is_ability (e i) (f i)) ∙ h.1))
 

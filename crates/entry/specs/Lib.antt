@@ -4,5 +4,6 @@ pub mod Faults
 pub mod Holding
 pub mod Kinds
 pub mod Laws
+pub mod Makes
 pub mod Products
 pub mod Ranges

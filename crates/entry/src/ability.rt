@@ -1,7 +1,7 @@
-ghost use Rattle.std.specs.Prelude.{◌≡◌, ◌*◌, false, pos, ◌*ℤ◌, neg_ℤ, ◌≤ℤ◌, MatchResult};
+ghost use Rattle.std.specs.Prelude.{◌≡◌, ◌*◌, pos, ◌*ℤ◌, neg_ℤ, ◌≤ℤ◌};
 ghost use Rattle.entry.specs.Abilities.{ability_meets, ability_takes, ability_makes, gain as gain_of};
+ghost use Rattle.entry.specs.Makes.{Makes};
 ghost use Rattle.entry.specs.Ranges.{is_ability};
-ghost use Rattle.entry.specs.declared.entry_fault.EntryFault.TheVariants.{OutOfRange};
 
 use crate::entry_fault::EntryFault;
 use crate::kind::Entry;
@@ -10,7 +10,7 @@ use crate::parts::{Ability, AbilityThreshold, Weighed};
 impl Ability {
     // The ability `marks` over `weight`, or a refusal where one of them is out of range.
     pub fn new(marks: i32, weight: u32) -> Result<Ability, EntryFault>
-        ensures { MatchResult result (λ a. (a.marks ≡ marks) × (a.weight ≡ weight)) (λ e. (e ≡ OutOfRange) × (is_ability marks weight ≡ false)) }
+        ensures { Makes result (is_ability marks weight) (λ a. (a.marks ≡ marks) × (a.weight ≡ weight)) }
     {
         if (1..=1_000_000).contains(&weight) && marks.unsigned_abs() <= 100 * weight {
             Ok(Ability { marks, weight })

@@ -1,6 +1,6 @@
-ghost use Rattle.std.specs.Prelude.{◌≡◌, true, false, MatchResult};
+ghost use Rattle.std.specs.Prelude.{◌≡◌, true};
+ghost use Rattle.entry.specs.Makes.{Makes};
 ghost use Rattle.entry.specs.Ranges.{ability_threshold};
-ghost use Rattle.entry.specs.declared.entry_fault.EntryFault.TheVariants.{OutOfRange};
 
 use crate::entry_fault::EntryFault;
 use crate::parts::{AbilityThreshold, Weight, Whole};
@@ -8,7 +8,7 @@ use crate::parts::{AbilityThreshold, Weight, Whole};
 impl AbilityThreshold {
     // The threshold `least` over `over`, or a refusal where one of them is out of range.
     pub fn new(least: i32, over: u8) -> Result<AbilityThreshold, EntryFault>
-        ensures { MatchResult result (λ t. (t.least.value ≡ least) × (t.over.value ≡ over)) (λ e. (e ≡ OutOfRange) × (ability_threshold least over ≡ false)) }
+        ensures { Makes result (ability_threshold least over) (λ t. (t.least.value ≡ least) × (t.over.value ≡ over)) }
     {
         Ok(AbilityThreshold {
             least: Whole::new(least)?,

@@ -1,6 +1,6 @@
-ghost use Rattle.std.specs.Prelude.{◌≡◌, false, MatchResult};
+ghost use Rattle.std.specs.Prelude.{◌≡◌};
+ghost use Rattle.entry.specs.Makes.{Makes};
 ghost use Rattle.entry.specs.Ranges.{count_threshold};
-ghost use Rattle.entry.specs.declared.entry_fault.EntryFault.TheVariants.{OutOfRange};
 
 use crate::entry_fault::EntryFault;
 use crate::parts::{CountThreshold, Whole};
@@ -11,8 +11,9 @@ impl CountThreshold {
     };
 
     // The threshold of this number, or a refusal where it is out of range.
+    // Kept `new`, as in Whole: TryFrom would be a second name for the same.
     pub fn new(least: i32) -> Result<CountThreshold, EntryFault>
-        ensures { MatchResult result (λ t. t.least.value ≡ least) (λ e. (e ≡ OutOfRange) × (count_threshold least ≡ false)) }
+        ensures { Makes result (count_threshold least) (λ t. t.least.value ≡ least) }
     {
         Ok(CountThreshold {
             least: Whole::new(least)?,

@@ -1,4 +1,5 @@
 // What the rules of entries promise, each as the contract of a small function.
+// Kept apart, one for each kind of entry: each states its kind's own arithmetic under a name to look up.
 ghost use Rattle.std.specs.Prelude.{◌≡◌, true, false, Ok};
 ghost use Rattle.entry.specs.Laws.{CountAdds, AbilityAdds};
 

@@ -43,6 +43,8 @@ pub struct Ability {
 }
 
 // The threshold of a count: a whole number of -1,000,000 to 1,000,000.
+// Kept a type of its own, not a Count: the project wants each kind of entry to have its own kind of
+// threshold.
 #[derive(Clone, Copy, PartialEq, Eq, Debug)]
 pub struct CountThreshold {
     pub(crate) least: Whole<1_000_000>,

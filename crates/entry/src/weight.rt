@@ -1,14 +1,15 @@
-ghost use Rattle.std.specs.Prelude.{◌≡◌, ◌<◌, ◌≤◌, true, false, MatchResult};
+ghost use Rattle.std.specs.Prelude.{◌≡◌, ◌<◌, ◌≤◌, true};
+ghost use Rattle.entry.specs.Makes.{Makes};
 ghost use Rattle.entry.specs.Ranges.{weighs};
-ghost use Rattle.entry.specs.declared.entry_fault.EntryFault.TheVariants.{OutOfRange};
 
 use crate::entry_fault::EntryFault;
 use crate::parts::Weight;
 
 impl Weight {
     // The weight of this number, or a refusal where it is out of range.
+    // Kept `new`, as in Whole: TryFrom would be a second name for the same.
     pub fn new(value: u8) -> Result<Weight, EntryFault>
-        ensures { MatchResult result (λ w. w.value ≡ value) (λ e. (e ≡ OutOfRange) × (weighs value ≡ false)) }
+        ensures { Makes result (weighs value) (λ w. w.value ≡ value) }
     {
         if (1..=100).contains(&value) {
             Ok(Weight { value })

@@ -15,6 +15,7 @@ pub enum Layer {
 
 impl Layer {
     // The word by which a refusal's line names the layer.
+    // Kept beside Display, which prints it: a public function with a promise of its own.
     pub fn word(self) -> &'static str
         ensures { result.now ≡ word_of self }
     {

@@ -1,9 +1,5 @@
 -- A text is accepted exactly where no fault holds; else the reading finds the first.
-use Rattle.std.proofs.Common.{◌≡◌, ℕ, ◌+◌, ◌<◌, ◌≤◌, true, List, length, pos, Err, Result, sym, refl, ◌∙◌, subst, inl, inr, ⊎_elim, arith, MatchResult}
-use Rattle.std.specs.Prelude.{int_le}
-use Rattle.std.proofs.lemmas.Int.{ints}
-use Rattle.std.proofs.lemmas.Bool.{and_from}
-use Rattle.text.specs.Numeral.{within}
+use Rattle.std.proofs.Common.{◌≡◌, ℕ, ◌+◌, ◌<◌, List, length, pos, sym, ap, ◌∙◌, subst, inl, inr, ⊎_elim, arith}
 use Rattle.mission.specs.declared.breach.Breach.{Breach}
 use Rattle.mission.specs.declared.line_fault.LineFault.{LineFault}
 use Rattle.mission.specs.declared.tree_fault.TreeFault.{TreeFault}
@@ -13,30 +9,17 @@ use Rattle.mission.specs.declared.mission.Mission.{Mission}
 use Rattle.mission.specs.Lawful.{Shape, Breaks, Lawful}
 use Rattle.mission.specs.Judging.{Refused}
 use Rattle.mission.specs.Shapes.{shape}
-use Rattle.mission.specs.Missions.{meaning, Accepted}
+use Rattle.mission.specs.Missions.{meaning}
 use Rattle.mission.specs.Reading.{Caught}
-use Rattle.mission.specs.Texts.{text, InRange, Holds, Earlier, FirstFault, Faultless}
+use Rattle.mission.specs.Texts.{text, sized, InRange, Holds, Earlier, FirstFault, Faultless}
 use Rattle.mission.proofs.OneText.{one_mission}
 use Rattle.mission.proofs.Runs.{shape_long}
-use Rattle.mission.proofs.TextFaults.{no_flaw}
-
-in_span : (lo hi n : ℕ) → lo ≤ n → n ≤ hi → within (pos lo) (pos hi) (pos n) ≡ true
-in_span lo hi n l h =
-    let a : int_le (pos lo) (pos n) ≡ true = grind (arith, ints) in
-    let b : int_le (pos n) (pos hi) ≡ true = grind (arith, ints) in
-    and_from _ _ a b
+use Rattle.mission.proofs.TextFaults.{declared_ranged, no_flaw}
 
 pub outline_ranged : (o : Outline) → InRange (shape o)
 outline_ranged o =
-    let l = shape_long o in
-    let s = o.some in
-    let f = o.fits in
-    record {
-      few_counts = in_span 0 32 o.counts (omega arith) o.few_counts;
-      few_abilities = in_span 0 32 o.abilities (omega arith) o.few_abilities;
-      size = in_span 1 256 (length (shape o).nodes) (omega arith) (omega arith);
-      each = o.in_range;
-    }
+    let d = declared_ranged o.declared in
+    record { few_counts = d.0; few_abilities = d.1; size = ap (λ n. sized (pos n)) (shape_long o) ∙ d.2; each = o.in_range }
 
 -- a breach of the one mission that has this text
 breaks_here : (t : List ℕ) (m : Shape) → t ≡ text m → InRange m → (b : Breach) (line : ℕ) → Holds t (AtNode b line) → (i : ℕ) × (line ≡ i + 5) × (i < length m.nodes) × Breaks m b i
@@ -78,16 +61,3 @@ not_refused t f m h e = faultless t (meaning m) e (outline_ranged m.outline) m.l
 
 pub given_back : (l m : Mission) → text (meaning l) ≡ text (meaning m) → meaning l ≡ meaning m
 given_back l m e = one_mission (meaning l) (meaning m) (outline_ranged l.outline) (outline_ranged m.outline) e
-
--- what `read` promises of a refusal that is handed on, and of what it accepts
-abbrev pub Outcome : {U : Type 0} → List ℕ → Result U TreeFault → Mission → Mission → Type 0
-Outcome t r before after = MatchResult r (λ _. Accepted t after) (λ f. FirstFault t f × (after ≡ before))
-
-abbrev pub Back : {U : Type 0} → List ℕ → Result U TreeFault → Mission → Type 0
-Back t r after = (m : Mission) → t ≡ text (meaning m) → MatchResult r (λ _. meaning after ≡ meaning m) (λ _. ⊥)
-
-pub refused_outcome : {U : Type 0} (t : List ℕ) (r : Result U TreeFault) (f : TreeFault) (m : Mission) → (x : TreeFault) × (r ≡ Err x) × (x ≡ f) → FirstFault t f → Outcome t r m m
-refused_outcome t r f m p h = subst (λ q. Outcome t q m m) (sym p.1) (subst (FirstFault t) (sym p.2) h, refl)
-
-pub refused_back : {U : Type 0} (t : List ℕ) (r : Result U TreeFault) (f : TreeFault) (m : Mission) → (x : TreeFault) × (r ≡ Err x) × (x ≡ f) → FirstFault t f → Back t r m
-refused_back t r f m p h l e = subst (λ q. MatchResult q (λ _. meaning m ≡ meaning l) (λ _. ⊥)) (sym p.1) (not_refused t f l h e)

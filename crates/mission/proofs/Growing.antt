@@ -1,8 +1,9 @@
 -- Flattening a tree and reading it back are inverse, and the nodes of a lawful mission make one tree.
-use Rattle.std.proofs.Common.{◌≡◌, ℕ, zero, suc, ◌+◌, ◌-◌, ◌<◌, true, ◌&&◌, ◌⊎◌, List, [], ◌∷◌, ◌++◌, length, drop, replicate, pos, Some, None, Option, sym, refl, ap, ◌∙◌, subst, inl, inr, ⊎_elim, append_assoc, append-nil, arith}
+use Rattle.std.proofs.Common.{◌≡◌, ℕ, zero, suc, ◌+◌, ◌-◌, ◌<◌, true, ◌⊎◌, List, [], ◌∷◌, ◌++◌, length, drop, replicate, pos, Some, None, Option, sym, refl, ap, ◌∙◌, subst, inl, inr, ⊎_elim, append_assoc, append-nil, arith}
 use Rattle.std.specs.Prelude.{int_le}
 use Rattle.std.specs.Option.{option_map}
 use Rattle.std.proofs.lemmas.List.{drop_more, drop_all, length-append, length-replicate}
+use Rattle.std.proofs.lemmas.List.Folds.{list_all-append}
 use Rattle.std.proofs.lemmas.Int.{ints}
 use Rattle.std.proofs.lemmas.Bool.{and_parts}
 use Rattle.text.specs.Fields.{then}
@@ -195,13 +196,6 @@ one_tree (cons t nil) e = (t, refl)
 one_tree (cons t (cons u us)) e = absurd (omega arith)
 
 -- in range, each group has a child
-ranged_append : (xs ys : List Node) → all_ranged (xs ++ ys) ≡ true → (all_ranged xs ≡ true) × (all_ranged ys ≡ true)
-ranged_append [] ys h = (refl, h)
-ranged_append (x ∷ xs) ys h =
-    let p = and_parts (ranged (raw x)) (all_ranged (xs ++ ys)) h in
-    let q = ranged_append xs ys p.1 in
-    (λ i. p.0 i && q.0 i, q.1)
-
 some_kids : (w : ℕ) → within (pos 1) (pos 32) (pos w) ≡ true → 0 < w
 some_kids w h = let a = (and_parts (int_le (pos 1) (pos w)) _ h).0 in grind (arith, ints)
 
@@ -218,7 +212,9 @@ mutual
 
   all_populated : (ts : Trees) → all_ranged (flattens ts) ≡ true → AllPopulated ts
   all_populated nil h = tt
-  all_populated (cons t ts) h = let p = ranged_append (flatten t) (flattens ts) h in (populated t p.0, all_populated ts p.1)
+  all_populated (cons t ts) h =
+      let p = and_parts (all_ranged (flatten t)) (all_ranged (flattens ts)) (sym (list_all-append (λ n. ranged (raw n)) (flatten t) (flattens ts)) ∙ h) in
+      (populated t p.0, all_populated ts p.1)
 
 pub means : (m : Shape) → Lawful m → 0 < length m.nodes → all_ranged m.nodes ≡ true → Means m.nodes
 means m l some r =

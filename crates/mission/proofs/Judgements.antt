@@ -1,26 +1,22 @@
 -- The tests of a node decide the conditions of refusals 3 to 7.
-use Rattle.std.proofs.Common.{◌≡◌, ◌≢◌, ℕ, suc, ◌+◌, ◌-◌, ◌<◌, Bool, true, false, List, length, get_or, drop, Some, None, Option, sym, refl, ap, ◌∙◌, inr, ⊎_elim, subst, Ok, Err, Result, add-one, arith}
+use Rattle.std.proofs.Common.{◌≡◌, ◌≢◌, ℕ, suc, ◌+◌, ◌-◌, ◌<◌, Bool, true, false, List, length, get_or, drop, Some, None, Option, sym, refl, ap, ◌∙◌, inr, ⊎_elim, add-one, arith}
 use Rattle.std.proofs.lemmas.Bool.{both_ways}
-use Rattle.std.specs.Prelude.{Decides, MatchResult}
-use Rattle.std.specs.Result.{IsErrAnd}
-use Rattle.std.proofs.lemmas.Result.{err_from_is_err_and}
-use Rattle.mission.specs.declared.tree_fault.TreeFault.{TreeFault}
-use Rattle.mission.specs.declared.tree_fault.TreeFault.TheVariants.{Node as AtNode}
+use Rattle.std.specs.Prelude.{Decides}
 use Rattle.std.proofs.lemmas.List.{nil_from_length}
 use Rattle.mission.specs.declared.node.Node.{Node}
-use Rattle.mission.specs.declared.breach.Breach.{Breach}
 use Rattle.mission.specs.Lines.{all_ranged}
 use Rattle.mission.specs.Nodes.{arity, skill_of}
 use Rattle.mission.specs.Places.{node_at, places}
 use Rattle.mission.specs.Seen.{noted_in, row}
-use Rattle.mission.specs.Lawful.{Shape, Sound, Unplaced, Deep, Again, Breaks}
-use Rattle.mission.specs.Judging.{Next, Unbroken, Judged, Refused}
-use Rattle.mission.proofs.Places.{places_count, row_has, row_had, ranged_at, skill_small}
+use Rattle.mission.specs.Lawful.{Unplaced, Deep, Again}
+use Rattle.mission.specs.Judging.{Next}
+use Rattle.mission.proofs.Places.{places_count, next_open, row_has, row_had, ranged_at, skill_small}
 
 -- a last node that stands at an open place leaves places open exactly if others are open or it has children
-pub open_decides : (ns : List Node) (i : ℕ) (b : Bool) → 0 < length (places ns i) → i + 1 ≡ length ns
-    → Decides b (0 < length (places ns i) - 1 + arity (node_at ns i)) → Decides b (Unplaced ns i)
-open_decides ns i b some last d =
+pub open_decides : (ns : List Node) (i : ℕ) (b : Bool) {still level : ℕ} → Next ns i 1 level → still ≡ length (places ns i) → i + 1 ≡ length ns
+    → Decides b (0 < still - 1 + arity (node_at ns i)) → Decides b (Unplaced ns i)
+open_decides ns i b next opened last d =
+    let some = next_open next (omega arith) in
     let count = places_count ns i some in
     let same = ap (λ k. length (places ns k)) (add-one i) in (
       λ t. let l = d.0 t in inr (omega arith, λ z. let none : length (places ns (suc i)) ≡ 0 = ap length z in omega arith),
@@ -45,12 +41,3 @@ again_decides ns i {b} g e = (
       (j.0, k.0, j.1, j.2, k.1),
   λ a. e ∙ ap (noted_in (row ns i)) a.4 ∙ row_had ns i a.0 a.1 (skill_small (node_at ns i) a.1 (ranged_at ns i g) a.4) a.2 a.3,
 )
-
--- the judgement of a node, told with the line of its breach
-pub told : (m : Shape) (i : ℕ) (r : Result (Unit {0}) Breach) (q : Result (Unit {0}) TreeFault) {Q : Breach → TreeFault → Type 0}
-    → i < length m.nodes → Sound m i → Judged m i r → ((b : Breach) (f : TreeFault) → Q b f → f ≡ AtNode b (i + 5))
-    → MatchResult r (λ x. q ≡ Ok x) (λ b. IsErrAnd q (Q b)) → MatchResult q (λ _. Unbroken m i) (λ e. Refused m e)
-told m i (Ok u) q l s j f h = rw h j
-told m i (Err b) q l s j f h =
-    let p = err_from_is_err_and q h in
-    rw p.1 (subst (Refused m) (sym (f b p.0 p.2)) (i, refl, (l, j.0, λ c k d x. ⊎_elim (λ before. s c k before x) (λ same. j.1 c same.1 (subst (Breaks m c) same.0 x)) d)))

@@ -2,6 +2,7 @@ pub mod Places
 pub mod Judgements
 pub mod Runs
 pub mod LineForms
+pub mod Handed
 pub mod NumberLines
 pub mod NodeLines
 pub mod LineReadings

@@ -1,5 +1,6 @@
 -- One line a node: a line is read as w, as numbers are held, exactly when it is the line of w.
 use Rattle.std.proofs.Common.{◌≡◌, ℕ, Bool, true, ◌&&◌, List, [], ◌∷◌, ℤ, pos, negsuc, Some, None, Ok, Err, codes, Option, Result, sym, refl, ap, ◌∙◌, subst, ⊎_elim}
+use Rattle.std.specs.List.{find}
 use Rattle.std.specs.Option.{option_map}
 use Rattle.std.specs.Str.{bytes_eq}
 use Rattle.std.proofs.lemmas.Slice.Eq.{bytes_eq-Decides}
@@ -19,7 +20,7 @@ use Rattle.mission.specs.declared.raw.RawTarget.TheVariants.{Nowhere as RNowhere
 use Rattle.mission.specs.declared.raw.RawNode.{RawNode}
 use Rattle.mission.specs.declared.raw.RawNode.TheVariants.{Group as RGroup, Par as RPar, Not as RNot, Loop as RLoop, Skill as RSkill, Count as RCount, Ability as RAbility}
 use Rattle.mission.specs.Lines.{kind_word, number_field, or_none, into_word, key_of, weight_of, kind_line, line, key_ranged, device_ranged, target_ranged, ranged, raw, RangeJudged, Bad, LineJudged}
-use Rattle.mission.specs.Parsing.{kinds, kind_among, kind, target_of, maybe, target, skill, ability, filled, parsed, kept_target, kept_raw}
+use Rattle.mission.specs.Parsing.{kinds, kind, target_of, maybe, target, skill, ability, filled, parsed, kept_target, kept_raw}
 
 -- each kind is named by its word, and by no other
 pub kind_named : (k : NodeKind) → kind (kind_word k) ≡ Some k
@@ -35,7 +36,7 @@ kind_named KSkill = refl
 kind_named KCount = refl
 kind_named KAbility = refl
 
-among_sound : (ks : List NodeKind) (w : List ℕ) (k : NodeKind) → kind_among ks w ≡ Some k → w ≡ kind_word k
+among_sound : (ks : List NodeKind) (w : List ℕ) (k : NodeKind) → find (λ j. bytes_eq w (kind_word j)) ks ≡ Some k → w ≡ kind_word k
 among_sound [] w k e = never e
 among_sound (j ∷ ks) w k e =
     ⊎_elim

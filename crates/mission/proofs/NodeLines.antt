@@ -1,9 +1,10 @@
 -- Node lines taken one by one.
 use Rattle.std.proofs.Common.{◌≡◌, ℕ, true, List, [], ◌∷◌, ◌++◌, map, sym, refl, ap, ◌∙◌, append_assoc}
 use Rattle.std.proofs.lemmas.List.{map-append}
-use Rattle.std.proofs.lemmas.Bool.{and_parts, and_from}
+use Rattle.std.proofs.lemmas.List.Folds.{list_all-append}
+use Rattle.std.proofs.lemmas.Bool.{and_from}
 use Rattle.mission.specs.declared.node.Node.{Node}
-use Rattle.mission.specs.Lines.{raw, ranged, all_ranged}
+use Rattle.mission.specs.Lines.{raw, ranged}
 use Rattle.mission.specs.Texts.{ended, node_line}
 use Rattle.mission.specs.Reading.{Taken}
 
@@ -14,17 +15,13 @@ ended_both (k ∷ ks) ls = append_assoc k (10 ∷ ended ks) (ended ls) ∙ ap (�
 pub ended_append : (ks ls : List (List ℕ)) (t : List ℕ) → ended ks ++ (ended ls ++ t) ≡ ended (ks ++ ls) ++ t
 ended_append ks ls t = sym (append_assoc (ended ks) (ended ls) t) ∙ ap (λ xs. xs ++ t) (ended_both ks ls)
 
-pub ended_push : (ls : List (List ℕ)) (l t : List ℕ) → ended (ls ++ (l ∷ [])) ++ t ≡ ended ls ++ (l ++ (10 ∷ t))
+ended_push : (ls : List (List ℕ)) (l t : List ℕ) → ended (ls ++ (l ∷ [])) ++ t ≡ ended ls ++ (l ++ (10 ∷ t))
 ended_push ls l t = sym (ended_append ls (l ∷ []) t) ∙ ap (λ xs. ended ls ++ xs) (append_assoc l (10 ∷ []) t)
-
-ranged_push : (ns : List Node) (n : Node) → all_ranged ns ≡ true → ranged (raw n) ≡ true → all_ranged (ns ++ (n ∷ [])) ≡ true
-ranged_push [] n h g = and_from (ranged (raw n)) true g refl
-ranged_push (k ∷ ns) n h g = let p = and_parts (ranged (raw k)) (all_ranged ns) h in and_from _ _ p.0 (ranged_push ns n p.1 g)
 
 pub taken_push : (t : List ℕ) (ns : List Node) (n : Node) (rest l after : List ℕ) → Taken t ns rest → rest ≡ l ++ (10 ∷ after) → l ≡ node_line n → ranged (raw n) ≡ true
     → Taken t (ns ++ (n ∷ [])) after
 taken_push t ns n rest l after h e k g = (
   h.0 ∙ ap (λ r. ended (map node_line ns) ++ r) (e ∙ ap (λ x. x ++ (10 ∷ after)) k) ∙ sym (ended_push (map node_line ns) (node_line n) after)
       ∙ ap (λ ls. ended ls ++ after) (sym (map-append node_line ns (n ∷ []))),
-  ranged_push ns n h.1 g,
+  list_all-append (λ m. ranged (raw m)) ns (n ∷ []) ∙ and_from _ _ h.1 (and_from _ true g refl),
 )

@@ -3,6 +3,7 @@ use Rattle.std.proofs.Common.{◌≡◌, ℕ, true, List, [], ◌∷◌, map, le
 use Rattle.std.specs.Option.{option_map}
 use Rattle.std.specs.List.{AllByRecursion}
 use Rattle.std.proofs.lemmas.List.{append_cancel_left}
+use Rattle.std.proofs.lemmas.Option.{some_pair_parts}
 use Rattle.std.proofs.lemmas.Bool.{and_parts}
 use Rattle.text.specs.Numeral.{numeral}
 use Rattle.text.specs.Fields.{field, spaced, free, parted}
@@ -87,22 +88,18 @@ pub clean_nodes : (ns : List Node) → Clean (map node_line ns)
 clean_nodes [] = tt
 clean_nodes (n ∷ ns) = (free_line (raw n), clean_nodes ns)
 
-pub clean_lines : (a b n : ℕ) (ns : List Node) → Clean (lines a b n ns)
+clean_lines : (a b n : ℕ) (ns : List Node) → Clean (lines a b n ns)
 clean_lines a b n ns =
     (refl, (free_number (codes "counts") (pos a) refl, (free_number (codes "abilities") (pos b) refl, (free_number (codes "nodes") (pos n) refl, clean_nodes ns))))
 
 -- lines with their ends are told apart
-pair_same : (a b c d : List ℕ) → ◌≡◌ {A = Option (List ℕ × List ℕ)} (Some (a, b)) (Some (c, d)) → (a ≡ c) × (b ≡ d)
-pair_same a b c d e =
-    let q : ◌≡◌ {A = List ℕ × List ℕ} (a, b) (c, d) = some_same (a, b) (c, d) e in (ap (λ (p : List ℕ × List ℕ). p.0) q, ap (λ (p : List ℕ × List ℕ). p.1) q)
-
 pub one_lines : (ks ls : List (List ℕ)) → Clean ks → Clean ls → ended ks ≡ ended ls → ks ≡ ls
 unfolding parted
 one_lines [] [] c d e = refl
 one_lines [] (l ∷ ls) c d e = never (ap (parted 10) e ∙ parted_here 10 l (ended ls) d.0)
 one_lines (k ∷ ks) [] c d e = never (sym (ap (parted 10) e) ∙ parted_here 10 k (ended ks) c.0)
 one_lines (k ∷ ks) (l ∷ ls) c d e =
-    let q = pair_same k (ended ks) l (ended ls) (sym (parted_here 10 k (ended ks) c.0) ∙ ap (parted 10) e ∙ parted_here 10 l (ended ls) d.0) in
+    let q = some_pair_parts k l (ended ks) (ended ls) (sym (parted_here 10 k (ended ks) c.0) ∙ ap (parted 10) e ∙ parted_here 10 l (ended ls) d.0) in
     λ i. q.0 i ∷ one_lines ks ls c.1 d.1 q.1 i
 
 -- a number field is told by its number

@@ -1,9 +1,10 @@
 -- Open places and named skills, one node further.
 use Rattle.std.proofs.Common.{◌≡◌, ℕ, zero, suc, ◌+◌, ◌<◌, ◌≤◌, Bool, true, false, ◌⊎◌, List, [], ◌∷◌, length, get_or, set, replicate, pos, Some, None, Option, sym, refl, ap, ◌∙◌, inl, inr, ⊎_elim, add-one, length-append, drop, arith}
-use Rattle.std.proofs.lemmas.List.{length-set, length-replicate, get_or-replicate, get_or-set_same, get_or-set_other}
+use Rattle.std.proofs.lemmas.List.{length-set, length-replicate, get_or-replicate, get_or-set_same, get_or-set_other, get_or_past}
+use Rattle.std.proofs.lemmas.List.Sums.{AllPass-from_list_all}
 use Rattle.std.specs.Prelude.{int_le}
 use Rattle.std.proofs.lemmas.Int.{ints}
-use Rattle.std.proofs.lemmas.Bool.{and_parts, cases_eq, both_ways}
+use Rattle.std.proofs.lemmas.Bool.{and_parts, cases_eq, cases_lt, both_ways}
 use Rattle.text.specs.Numeral.{within}
 use Rattle.mission.specs.declared.node.Node.{Node}
 use Rattle.mission.specs.declared.node.Node.TheVariants.{Group, Par, Not, Loop, Skill, Count, Ability}
@@ -74,9 +75,9 @@ row_had ns (suc i) j k h l e =
 
 -- what the range of a node says of its skill
 pub ranged_at : (ns : List Node) (i : ℕ) → all_ranged ns ≡ true → ranged (raw (node_at ns i)) ≡ true
-ranged_at [] i h = refl
-ranged_at (n ∷ ns) zero h = (and_parts (ranged (raw n)) (all_ranged ns) h).0
-ranged_at (n ∷ ns) (suc i) h = ranged_at ns i (and_parts (ranged (raw n)) (all_ranged ns) h).1
+ranged_at ns i h =
+    let test : Node → Bool = λ n. ranged (raw n) in
+    ⊎_elim (λ l. AllPass-from_list_all test ns h i Not l) (λ g. ap test (get_or_past ns i Not g)) (cases_lt i (length ns))
 
 pub skill_small : (n : Node) (k : ℕ) → ranged (raw n) ≡ true → skill_of n ≡ Some k → k < 64
 skill_small (Group kind kids) k h e = cc

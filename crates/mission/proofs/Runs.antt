@@ -1,9 +1,9 @@
 -- Reading a node is reading its run of children; reading a run is reading its first node and the rest.
-use Rattle.std.proofs.Common.{◌≡◌, ℕ, zero, suc, ◌+◌, ◌-◌, ◌<◌, ◌≤◌, List, ◌∷◌, ◌++◌, length, drop, replicate, sym, ap, ◌∙◌, subst, zero-add, suc-add, inr, ⊎_elim, add-one, arith}
-use Rattle.std.proofs.lemmas.List.{length-replicate, drop_at, drop-drop, length-take-le}
+use Rattle.std.proofs.Common.{◌≡◌, ℕ, zero, suc, ◌+◌, ◌-◌, ◌<◌, ◌≤◌, List, ◌∷◌, ◌++◌, length, drop, replicate, sym, ap, ◌∙◌, subst, zero-add, suc-add, ⊎_elim, add-one, arith}
+use Rattle.std.proofs.lemmas.List.{length-replicate, drop_at, length-take-le}
 use Rattle.std.proofs.lemmas.Bool.{cases_eq, cases_lt}
 use Rattle.mission.specs.declared.node.Node.{Node}
-use Rattle.mission.specs.declared.breach.Breach.TheVariants.{Place, Level}
+use Rattle.mission.specs.declared.breach.Breach.TheVariants.{Level}
 use Rattle.mission.specs.declared.outline.Outline.{Outline}
 use Rattle.mission.specs.Nodes.{arity}
 use Rattle.mission.specs.Places.{node_at, taken, places}
@@ -11,10 +11,10 @@ use Rattle.mission.specs.Lawful.{Shape, Breaks, Sound}
 use Rattle.mission.specs.Judging.{Unbroken, Next, Filled}
 use Rattle.mission.specs.Shapes.{shape}
 use Rattle.mission.proofs.Judgements.{deep}
-use Rattle.mission.proofs.Places.{places_more, places_none, next_open}
+use Rattle.mission.proofs.Places.{places_more, places_none}
 
-pub shape_long : (o : Outline) → length (shape o).nodes ≡ o.len
-shape_long o = length-take-le o.len o.nodes (let f = o.fits in let t = o.table in omega arith)
+pub shape_long : (o : Outline) → length (shape o).nodes ≡ o.declared.nodes
+shape_long o = length-take-le o.declared.nodes o.nodes (let f = o.declared.fits in let t = o.table in omega arith)
 
 pub sound_more : (m : Shape) (i : ℕ) → Sound m i → Unbroken m i → Sound m (i + 1)
 sound_more m i s h b j l x = ⊎_elim (λ e. h b (subst (Breaks m b) e x)) (λ ne. s b j (omega (arith, ne)) x) (cases_eq j i)
@@ -38,10 +38,10 @@ children_next ns {i} {level} {kids} next k =
     record { first = opened ns kids next k ∙ ap (λ xs. replicate kids (level + 1) ++ xs) (sym (behind ns kids next k)) }
 
 -- a node and the run of its children fill the node's place
-pub node_filled : (ns : List Node) {i level kids end : ℕ} → Next ns i 1 level → kids ≡ arity (node_at ns i) → Filled ns (i + 1) kids end → (i < end) × Filled ns i 1 end
+pub node_filled : (ns : List Node) {i level kids end : ℕ} → Next ns i 1 level → kids ≡ arity (node_at ns i) → Filled ns (i + 1) kids end → Filled ns i 1 end
 node_filled ns {i} {level} {kids} {end} next k f =
     let on = f.on in
-    (omega arith, record { on = omega arith; left = f.left ∙ behind ns kids next k })
+    record { on = omega arith; left = f.left ∙ behind ns kids next k }
 
 -- what is left of a run is a run
 drop_some : (done more level : ℕ) (xs : List ℕ) → drop done (replicate (done + more) level ++ xs) ≡ replicate more level ++ xs
@@ -56,25 +56,6 @@ run_next ns {i} {kids} {level} {done} {at} next f h =
     let here : places ns at ≡ level ∷ (replicate (kids - suc done) level ++ others) =
     f.left ∙ ap (drop done) (next.first ∙ ap (λ k. replicate k level ++ others) more) ∙ drop_some done (suc (kids - suc done)) level others in
     record { first = here ∙ ap (λ xs. level ∷ xs) (sym (ap (drop 1) here)) }
-
-pub run_more : (ns : List Node) {i done at end : ℕ} → Filled ns i done at → Filled ns at 1 end → Filled ns i (done + 1) end
-run_more ns {i} {done} {at} {end} f g =
-    let a = f.on in
-    let b = g.on in
-    record { on = omega arith; left = g.left ∙ ap (drop 1) f.left ∙ drop-drop 1 done (places ns i) ∙ ap (λ k. drop k (places ns i)) (omega arith) }
-
--- a node is left for an open place: after the last node of a sound outline none is open
-pub node_left : (m : Shape) {i level : ℕ} → Sound m i → i ≤ length m.nodes → Next m.nodes i 1 level → 0 < i → i < length m.nodes
-node_left m {i} {level} sound within next b =
-    ⊎_elim
-    (λ (l : i < length m.nodes). l)
-    (λ (l : length m.nodes ≤ i).
-    let last : suc (i - 1) ≡ length m.nodes = omega arith in
-    let here : suc (i - 1) ≡ i = omega arith in
-    let some = next_open next (omega arith) in
-    absurd (sound Place (i - 1) (omega arith)
-    (inr (last, λ z. let none : length (places m.nodes i) ≡ 0 = ap length (ap (places m.nodes) (sym here) ∙ z) in omega arith))))
-    (cases_lt i (length m.nodes))
 
 -- the whole: one place at level 1, and none left after the last node
 pub root : (ns : List Node) → Next ns 0 1 1

@@ -1,8 +1,11 @@
 -- The first fault of a text, from what each part of the reading says.
 use Rattle.std.proofs.Common.{◌≡◌, ℕ, zero, suc, ◌+◌, ◌<◌, ◌≤◌, Bool, true, List, [], ◌∷◌, ◌++◌, map, length, get_or, ℤ, pos, nat_abs, Some, codes, Option, sym, refl, ap, ◌∙◌, subst, inl, inr, ⊎_elim, append_assoc, append-nil, arith}
 use Rattle.std.specs.Option.{option_map}
-use Rattle.std.proofs.lemmas.List.{length-map, get_or-map}
-use Rattle.std.proofs.lemmas.Bool.{cases_lt, and_parts}
+use Rattle.std.proofs.lemmas.List.{length-map, get_or-map, length_push}
+use Rattle.std.proofs.lemmas.Bool.{cases_lt, and_from}
+use Rattle.std.proofs.lemmas.Int.{ints}
+use Rattle.std.specs.Prelude.{int_le}
+use Rattle.text.specs.Numeral.{within}
 use Rattle.text.specs.Fields.{free, parted, then}
 use Rattle.text.proofs.Cuts.{some_same, parted_here}
 use Rattle.text.proofs.Ranges.{true_not_false}
@@ -10,48 +13,37 @@ use Rattle.mission.specs.declared.flaw.Flaw.{Flaw}
 use Rattle.mission.specs.declared.flaw.Flaw.TheVariants.{Form, Range}
 use Rattle.mission.specs.declared.line_fault.LineFault.{LineFault}
 use Rattle.mission.specs.declared.node.Node.{Node}
+use Rattle.mission.specs.declared.outline.Declared.{Declared}
 use Rattle.mission.specs.declared.node.Node.TheVariants.{Not}
 use Rattle.mission.specs.Faults.{flaw_number}
 use Rattle.mission.specs.Lawful.{Shape}
 use Rattle.mission.specs.Lines.{number_field, line, raw, ranged, all_ranged, Bad}
-use Rattle.mission.specs.Texts.{ended, head_line, counts_line, abilities_line, nodes_line, node_line, lines, text, declared, sized, InRange, skip, first_of, nth, Wrong, NodeFlawed, Flawed, FirstFlaw}
+use Rattle.mission.specs.Texts.{ended, head_line, counts_line, abilities_line, nodes_line, node_line, heading, lines, text, declared, sized, InRange, skip, first_of, nth, Wrong, NodeFlawed, Flawed, FirstFlaw}
 use Rattle.mission.specs.Reading.{Taken, Stopped, Caught}
-use Rattle.mission.proofs.NodeLines.{ended_push, ended_append}
-use Rattle.mission.proofs.OneText.{Clean, clean_lines, clean_nodes, free_number, one_number, same_range}
+use Rattle.mission.proofs.Places.{ranged_at}
+use Rattle.mission.proofs.NodeLines.{ended_both, ended_append}
+use Rattle.mission.proofs.OneText.{Clean, clean_nodes, free_number, one_number, same_range}
+
+-- the first line of a text is cut off
+first_cut : (l : List ℕ) (ls : List (List ℕ)) (t : List ℕ) → free 10 l ≡ true → parted 10 (ended (l ∷ ls) ++ t) ≡ Some (l, ended ls ++ t)
+first_cut l ls t f = ap (parted 10) (append_assoc l (10 ∷ ended ls) t) ∙ parted_here 10 l (ended ls ++ t) f
 
 -- the lines of a text that begins with them, and what follows them
 pub skip_ended : (ls : List (List ℕ)) (t : List ℕ) → Clean ls → skip (length ls) (ended ls ++ t) ≡ Some t
 unfolding skip
 skip_ended [] t c = refl
-skip_ended (l ∷ ls) t c =
-    ap (λ xs. then (parted 10 xs) (λ p. skip (length ls) p.1)) (append_assoc l (10 ∷ ended ls) t)
-    ∙ ap (λ o. then o (λ p. skip (length ls) p.1)) (parted_here 10 l (ended ls ++ t) c.0)
-    ∙ skip_ended ls t c.1
+skip_ended (l ∷ ls) t c = ap (λ o. then o (λ p. skip (length ls) p.1)) (first_cut l ls t c.0) ∙ skip_ended ls t c.1
 
 pub nth_ended : (ls : List (List ℕ)) (t : List ℕ) (k : ℕ) → Clean ls → k < length ls → nth k (ended ls ++ t) ≡ Some (get_or ls k [])
 unfolding skip
 nth_ended [] t k c h = absurd (omega arith)
-nth_ended (l ∷ ls) t zero c h = ap first_of (append_assoc l (10 ∷ ended ls) t) ∙ ap (option_map (λ p. p.0)) (parted_here 10 l (ended ls ++ t) c.0)
-nth_ended (l ∷ ls) t (suc k) c h =
-    ap (λ xs. then (then (parted 10 xs) (λ p. skip k p.1)) first_of) (append_assoc l (10 ∷ ended ls) t)
-    ∙ ap (λ o. then (then o (λ p. skip k p.1)) first_of) (parted_here 10 l (ended ls ++ t) c.0)
-    ∙ nth_ended ls t k c.1 (omega arith)
+nth_ended (l ∷ ls) t zero c h = ap (option_map (λ p. p.0)) (first_cut l ls t c.0)
+nth_ended (l ∷ ls) t (suc k) c h = ap (λ o. then (then o (λ p. skip k p.1)) first_of) (first_cut l ls t c.0) ∙ nth_ended ls t k c.1 (omega arith)
 
 -- a text begins with clean lines, and this is left
 pub record Begins (t : List ℕ) (ls : List (List ℕ)) (rest : List ℕ) : Type 0 where
   pub clean : Clean ls
   pub is : t ≡ ended ls ++ rest
-
-pub begin : (t : List ℕ) → Begins t [] t
-begin t = record { clean = tt; is = refl }
-
-clean_push : (ls : List (List ℕ)) (l : List ℕ) → Clean ls → free 10 l ≡ true → Clean (ls ++ (l ∷ []))
-clean_push [] l c f = (f, tt)
-clean_push (k ∷ ls) l c f = (c.0, clean_push ls l c.1 f)
-
-pub begin_more : (t rest after : List ℕ) (ls : List (List ℕ)) (l : List ℕ) → Begins t ls rest → free 10 l ≡ true → rest ≡ l ++ (10 ∷ after) → Begins t (ls ++ (l ∷ [])) after
-begin_more t rest after ls l b f e =
-    record { clean = clean_push ls l b.clean f; is = b.is ∙ ap (λ r. ended ls ++ r) e ∙ sym (ended_push ls l after) }
 
 clean_append : (ks ls : List (List ℕ)) → Clean ks → Clean ls → Clean (ks ++ ls)
 clean_append [] ls c d = d
@@ -88,115 +80,92 @@ pub wrong_at : {X : Type 0} (form : X → List ℕ) (good : X → Bool) (xs : Li
 wrong_at form good xs l Form e b = λ x q. b x (some_same xs (form x) (sym e ∙ q))
 wrong_at form good xs l Range e b = (b.0, e ∙ ap Some b.1, b.2)
 
-same_field : (name : List ℕ) (good : ℤ → Bool) (y z : ℤ) → number_field name y ≡ number_field name z → good y ≡ good z
-same_field name good y z e = ap good (one_number name y z e)
-
--- the four lines before the nodes, where they are right
-right_0 : (t : List ℕ) (g : Flaw) → nth 0 t ≡ Some (head_line tt) → Flawed t 0 g → ⊥
-right_0 t g e w = not_wrong head_line (λ u. true) (λ x y p. refl) tt (nth 0 t) g e refl w
-
-right_1 : (t : List ℕ) (a : ℕ) (g : Flaw) → nth 1 t ≡ Some (counts_line (pos a)) → declared (pos a) ≡ true → Flawed t 1 g → ⊥
-right_1 t a g e d w = not_wrong counts_line declared (same_field (codes "counts") declared) (pos a) (nth 1 t) g e d w
-
-right_2 : (t : List ℕ) (a : ℕ) (g : Flaw) → nth 2 t ≡ Some (abilities_line (pos a)) → declared (pos a) ≡ true → Flawed t 2 g → ⊥
-right_2 t a g e d w = not_wrong abilities_line declared (same_field (codes "abilities") declared) (pos a) (nth 2 t) g e d w
-
-right_3 : (t : List ℕ) (n : ℕ) (g : Flaw) → nth 3 t ≡ Some (nodes_line (pos n)) → sized (pos n) ≡ true → Flawed t 3 g → ⊥
-right_3 t n g e d w = not_wrong nodes_line sized (same_field (codes "nodes") sized) (pos n) (nth 3 t) g e d w
-
 -- the first flaw, where no line before it has one
 pub first_at : (t : List ℕ) (k : ℕ) (f : Flaw) → ((j : ℕ) (g : Flaw) → j < k → Flawed t j g → ⊥) → Flawed t k f
     → ((g : Flaw) → flaw_number g < flaw_number f → Flawed t k g → ⊥) → FirstFlaw t k f
 first_at t k f before here lower =
     (here, λ j g s w. ⊎_elim (λ h. before j g h w) (λ h. lower g h.1 (subst (λ i. Flawed t i g) h.0 w)) s)
 
-before_1 : (t : List ℕ) → nth 0 t ≡ Some (head_line tt) → (j : ℕ) (g : Flaw) → j < 1 → Flawed t j g → ⊥
-before_1 t e zero g h w = right_0 t g e w
-before_1 t e (suc j) g h w = absurd (omega arith)
+-- a text begins with clean lines that have no flaw, and this is left
+pub record Headed (t : List ℕ) (ls : List (List ℕ)) (rest : List ℕ) : Type 0 where
+  pub begins : Begins t ls rest
+  pub before : (j : ℕ) (g : Flaw) → j < length ls → Flawed t j g → ⊥
 
-before_2 : (t : List ℕ) (a : ℕ) → nth 0 t ≡ Some (head_line tt) → nth 1 t ≡ Some (counts_line (pos a)) → declared (pos a) ≡ true → (j : ℕ) (g : Flaw) → j < 2 → Flawed t j g → ⊥
-before_2 t a e₀ e₁ d zero g h w = right_0 t g e₀ w
-before_2 t a e₀ e₁ d (suc zero) g h w = right_1 t a g e₁ d w
-before_2 t a e₀ e₁ d (suc (suc j)) g h w = absurd (omega arith)
+pub headed : (t : List ℕ) → Headed t [] t
+headed t = record { begins = record { clean = tt; is = refl }; before = λ j g h w. omega arith }
 
-before_3 : (t : List ℕ) (a b : ℕ) → nth 0 t ≡ Some (head_line tt) → nth 1 t ≡ Some (counts_line (pos a)) → declared (pos a) ≡ true
-    → nth 2 t ≡ Some (abilities_line (pos b)) → declared (pos b) ≡ true → (j : ℕ) (g : Flaw) → j < 3 → Flawed t j g → ⊥
-before_3 t a b e₀ e₁ d₁ e₂ d₂ zero g h w = right_0 t g e₀ w
-before_3 t a b e₀ e₁ d₁ e₂ d₂ (suc zero) g h w = right_1 t a g e₁ d₁ w
-before_3 t a b e₀ e₁ d₁ e₂ d₂ (suc (suc zero)) g h w = right_2 t b g e₂ d₂ w
-before_3 t a b e₀ e₁ d₁ e₂ d₂ (suc (suc (suc j))) g h w = absurd (omega arith)
+-- one line more, of its form and in range
+pub headed_more : {X : Type 0} (form : X → List ℕ) (good : X → Bool) {t rest after : List ℕ} {ls : List (List ℕ)} (x : X) → ((x y : X) → form x ≡ form y → good x ≡ good y)
+    → ((g : Flaw) → Flawed t (length ls) g → Wrong form good (nth (length ls) t) g)
+    → Headed t ls rest → free 10 (form x) ≡ true → rest ≡ form x ++ (10 ∷ after) → good x ≡ true → Headed t (ls ++ (form x ∷ [])) after
+headed_more form good {t} {rest} {after} {ls} x same flawed h f e d =
+    let here : nth (length ls) t ≡ Some (form x) = line_next h.begins ∙ ap first_of e ∙ ap (option_map (λ p. p.0)) (parted_here 10 (form x) after f) in
+    record {
+      begins = begin_all t rest after ls (form x ∷ []) h.begins (f, tt) (e ∙ sym (append_assoc (form x) (10 ∷ []) after));
+      before = λ j g l w.
+          ⊎_elim
+          (λ (lt : j < length ls). h.before j g lt w)
+          (λ (ge : length ls ≤ j).
+          let at : j ≡ length ls = omega (arith, length_push ls (form x)) in
+          not_wrong form good same x (nth (length ls) t) g here d (flawed g (subst (λ i. Flawed t i g) at w)))
+          (cases_lt j (length ls));
+    }
 
--- a flaw of one of the four lines
-pub flaw_0 : (t : List ℕ) (f : LineFault) → f.line ≡ 1 → Wrong head_line (λ u. true) (first_of t) f.flaw → Caught t f
-unfolding skip
-flaw_0 t f l w = (0, l, first_at t 0 f.flaw (λ j g h v. absurd (omega arith)) w (λ g h v. wrong_order head_line (λ u. true) (nth 0 t) f.flaw g w h v))
+pub number_more : (name : List ℕ) (good : ℤ → Bool) {t rest after : List ℕ} {ls : List (List ℕ)} (z : ℤ) → ((g : Flaw) → Flawed t (length ls) g → Wrong (number_field name) good (nth (length ls) t) g)
+    → Headed t ls rest → free 10 name ≡ true → rest ≡ number_field name z ++ (10 ∷ after) → good z ≡ true → Headed t (ls ++ (number_field name z ∷ [])) after
+number_more name good z flawed h f e d = headed_more (number_field name) good z (λ x y q. ap good (one_number name x y q)) flawed h (free_number name z f) e d
 
--- the lines before the nodes, as far as they are read
-abbrev pub Head1 : List ℕ → List ℕ → Type 0
-Head1 t rest = Begins t (head_line tt ∷ []) rest
+pub head_1 : (t after : List ℕ) → t ≡ head_line tt ++ (10 ∷ after) → Headed t (head_line tt ∷ []) after
+head_1 t after e = headed_more head_line (λ u. true) tt (λ x y q. refl) (λ g w. w) (headed t) refl e refl
 
-abbrev pub Head2 : List ℕ → ℕ → List ℕ → Type 0
-Head2 t a rest = Begins t (head_line tt ∷ counts_line (pos a) ∷ []) rest × (declared (pos a) ≡ true)
+-- the next line has a flaw, which is the first
+pub flaw_line : {X : Type 0} (form : X → List ℕ) (good : X → Bool) {t rest : List ℕ} {ls : List (List ℕ)} (f : LineFault) → ((g : Flaw) → Flawed t (length ls) g → Wrong form good (nth (length ls) t) g)
+    → ((g : Flaw) → Wrong form good (nth (length ls) t) g → Flawed t (length ls) g) → Headed t ls rest → f.line ≡ length ls + 1 → Wrong form good (first_of rest) f.flaw → Caught t f
+flaw_line form good {t} {rest} {ls} f flawed wrong h l w =
+    let v = subst (λ o. Wrong form good o f.flaw) (sym (line_next h.begins)) w in
+    (length ls, l, first_at t (length ls) f.flaw h.before (wrong f.flaw v) (λ g less u. wrong_order form good (nth (length ls) t) f.flaw g v less (flawed g u)))
 
-abbrev pub Head3 : List ℕ → ℕ → ℕ → List ℕ → Type 0
-Head3 t a b rest =
-    Begins t (head_line tt ∷ counts_line (pos a) ∷ abilities_line (pos b) ∷ []) rest × (declared (pos a) ≡ true) × (declared (pos b) ≡ true)
+-- the lines before the nodes, which declare a number of nodes in range
+abbrev pub Head : List ℕ → ℕ → ℕ → ℕ → List ℕ → Type 0
+Head t a b n rest = Headed t (lines a b n []) rest × (sized (pos n) ≡ true)
 
-abbrev pub Head4 : List ℕ → ℕ → ℕ → ℕ → List ℕ → Type 0
-Head4 t a b n rest =
-    Begins t (head_line tt ∷ counts_line (pos a) ∷ abilities_line (pos b) ∷ nodes_line (pos n) ∷ []) rest
-    × (declared (pos a) ≡ true) × (declared (pos b) ≡ true) × (sized (pos n) ≡ true)
+in_span : (lo hi n : ℕ) → lo ≤ n → n ≤ hi → within (pos lo) (pos hi) (pos n) ≡ true
+in_span lo hi n l h =
+    let a : int_le (pos lo) (pos n) ≡ true = grind (arith, ints) in
+    let b : int_le (pos n) (pos hi) ≡ true = grind (arith, ints) in
+    and_from _ _ a b
 
-pub head_1 : (t after : List ℕ) → t ≡ head_line tt ++ (10 ∷ after) → Head1 t after
-head_1 t after e = begin_more t t after [] (head_line tt) (begin t) refl e
+pub declared_ranged : (d : Declared) → (declared (pos d.counts) ≡ true) × (declared (pos d.abilities) ≡ true) × (sized (pos d.nodes) ≡ true)
+declared_ranged d =
+    (in_span 0 32 d.counts (omega arith) d.few_counts, in_span 0 32 d.abilities (omega arith) d.few_abilities, in_span 1 256 d.nodes d.some d.fits)
 
-pub head_2 : (t rest after : List ℕ) (a : ℕ) → Head1 t rest → rest ≡ counts_line (pos a) ++ (10 ∷ after) → declared (pos a) ≡ true → Head2 t a after
-head_2 t rest after a h e d = (begin_more t rest after _ (counts_line (pos a)) h (free_number (codes "counts") (pos a) refl) e, d)
+-- a text that begins with the lines of numbers in range
+pub head_of : (t rest : List ℕ) (a b n : ℕ) → t ≡ ended (lines a b n []) ++ rest → declared (pos a) ≡ true → declared (pos b) ≡ true → sized (pos n) ≡ true → Head t a b n rest
+head_of t rest a b n e c d s =
+    let x = ended (nodes_line (pos n) ∷ []) in
+    let y = ended (abilities_line (pos b) ∷ nodes_line (pos n) ∷ []) in
+    let z = ended (counts_line (pos a) ∷ abilities_line (pos b) ∷ nodes_line (pos n) ∷ []) in
+    let h₁ = head_1 t (z ++ rest) (e ∙ append_assoc (head_line tt) (10 ∷ z) rest) in
+    let h₂ = number_more (codes "counts") declared (pos a) (λ g w. w) h₁ refl (append_assoc (counts_line (pos a)) (10 ∷ y) rest) c in
+    let h₃ = number_more (codes "abilities") declared (pos b) (λ g w. w) h₂ refl (append_assoc (abilities_line (pos b)) (10 ∷ x) rest) d in
+    (number_more (codes "nodes") sized (pos n) (λ g w. w) h₃ refl (append_assoc (nodes_line (pos n)) (10 ∷ []) rest) s, s)
 
-pub head_3 : (t rest after : List ℕ) (a b : ℕ) → Head2 t a rest → rest ≡ abilities_line (pos b) ++ (10 ∷ after) → declared (pos b) ≡ true → Head3 t a b after
-head_3 t rest after a b h e d = (begin_more t rest after _ (abilities_line (pos b)) h.0 (free_number (codes "abilities") (pos b) refl) e, h.1, d)
-
-pub head_4 : (t rest after : List ℕ) (a b n : ℕ) → Head3 t a b rest → rest ≡ nodes_line (pos n) ++ (10 ∷ after) → sized (pos n) ≡ true → Head4 t a b n after
-head_4 t rest after a b n h e d = (begin_more t rest after _ (nodes_line (pos n)) h.0 (free_number (codes "nodes") (pos n) refl) e, h.1, h.2, d)
-
-pub flaw_1 : (t rest : List ℕ) (f : LineFault) → Head1 t rest → f.line ≡ 2 → Wrong counts_line declared (first_of rest) f.flaw → Caught t f
-flaw_1 t rest f b l w =
-    let v = subst (λ o. Wrong counts_line declared o f.flaw) (sym (line_next b)) w in
-    (1, l, first_at t 1 f.flaw (before_1 t (line_at 0 b (omega arith))) v (λ g h u. wrong_order counts_line declared (nth 1 t) f.flaw g v h u))
-
-pub flaw_2 : (t rest : List ℕ) (a : ℕ) (f : LineFault) → Head2 t a rest → f.line ≡ 3 → Wrong abilities_line declared (first_of rest) f.flaw → Caught t f
-flaw_2 t rest a f b l w =
-    let v = subst (λ o. Wrong abilities_line declared o f.flaw) (sym (line_next b.0)) w in (
-      2,
-      l,
-      first_at t 2 f.flaw (before_2 t a (line_at 0 b.0 (omega arith)) (line_at 1 b.0 (omega arith)) b.1) v
-          (λ g h u. wrong_order abilities_line declared (nth 2 t) f.flaw g v h u),
-    )
-
-pub flaw_3 : (t rest : List ℕ) (a c : ℕ) (f : LineFault) → Head3 t a c rest → f.line ≡ 4 → Wrong nodes_line sized (first_of rest) f.flaw → Caught t f
-flaw_3 t rest a c f b l w =
-    let v = subst (λ o. Wrong nodes_line sized o f.flaw) (sym (line_next b.0)) w in (
-      3,
-      l,
-      first_at t 3 f.flaw (before_3 t a c (line_at 0 b.0 (omega arith)) (line_at 1 b.0 (omega arith)) b.1 (line_at 2 b.0 (omega arith)) b.2) v
-          (λ g h u. wrong_order nodes_line sized (nth 3 t) f.flaw g v h u),
-    )
+pub head_read : (t rest : List ℕ) (d : Declared) → t ≡ ended (heading d) ++ rest → Head t d.counts d.abilities d.nodes rest
+head_read t rest d e = let r = declared_ranged d in head_of t rest d.counts d.abilities d.nodes e r.0 r.1 r.2
 
 -- node lines after the four
 pub record Noded (t : List ℕ) (a b n : ℕ) (ns : List Node) (rest : List ℕ) : Type 0 where
   pub begins : Begins t (lines a b n ns) rest
-  pub counts : declared (pos a) ≡ true
-  pub abilities : declared (pos b) ≡ true
+  pub before : (j : ℕ) (g : Flaw) → j < 4 → Flawed t j g → ⊥
   pub size : sized (pos n) ≡ true
   pub each : all_ranged ns ≡ true
 
-pub noded : (t start rest : List ℕ) (a b n : ℕ) (ns : List Node) → Head4 t a b n start → Taken start ns rest → Noded t a b n ns rest
+pub noded : (t start rest : List ℕ) (a b n : ℕ) (ns : List Node) → Head t a b n start → Taken start ns rest → Noded t a b n ns rest
 noded t start rest a b n ns h k =
     record {
-      begins = begin_all t start rest _ (map node_line ns) h.0 (clean_nodes ns) k.0;
-      counts = h.1;
-      abilities = h.2;
-      size = h.3;
+      begins = begin_all t start rest _ (map node_line ns) h.0.begins (clean_nodes ns) k.0;
+      before = h.0.before;
+      size = h.1;
       each = k.1;
     }
 
@@ -209,25 +178,20 @@ node_line_at {t} {rest} {a} {b} {n} {ns} i k h =
     let e : i + 4 ≡ suc (suc (suc (suc i))) = omega arith in
     line_at (i + 4) k.begins (omega arith) ∙ ap (λ j. Some (get_or (lines a b n ns) j [])) e ∙ ap Some (get_or-map node_line ns i Not [] h)
 
-ranged_each : (ns : List Node) (i : ℕ) → all_ranged ns ≡ true → i < length ns → ranged (raw (get_or ns i Not)) ≡ true
-ranged_each [] i g h = absurd (omega arith)
-ranged_each (n ∷ ns) zero g h = (and_parts (ranged (raw n)) (all_ranged ns) g).0
-ranged_each (n ∷ ns) (suc i) g h = ranged_each ns i (and_parts (ranged (raw n)) (all_ranged ns) g).1 (omega arith)
-
 declared_once : (t : List ℕ) (m n : ℕ) → nth 3 t ≡ Some (nodes_line (pos m)) → nth 3 t ≡ Some (nodes_line (pos n)) → m ≡ n
 declared_once t m n e f = ap nat_abs (one_number (codes "nodes") (pos m) (pos n) (some_same _ _ (sym e ∙ f)))
 
 -- no line that was taken has a flaw
 pub none_before : {t rest : List ℕ} {a b n : ℕ} {ns : List Node} → Noded t a b n ns rest → length ns ≤ n → (j : ℕ) (g : Flaw) → j < length ns + 4 → Flawed t j g → ⊥
-none_before {t} {rest} {a} {b} {n} {ns} k le zero g h w = right_0 t g (line_at 0 k.begins (omega arith)) w
-none_before {t} {rest} {a} {b} {n} {ns} k le (suc zero) g h w = right_1 t a g (line_at 1 k.begins (omega arith)) k.counts w
-none_before {t} {rest} {a} {b} {n} {ns} k le (suc (suc zero)) g h w = right_2 t b g (line_at 2 k.begins (omega arith)) k.abilities w
-none_before {t} {rest} {a} {b} {n} {ns} k le (suc (suc (suc zero))) g h w = right_3 t n g (line_at 3 k.begins (omega arith)) k.size w
+none_before k le zero g h w = k.before 0 g (omega arith) w
+none_before k le (suc zero) g h w = k.before 1 g (omega arith) w
+none_before k le (suc (suc zero)) g h w = k.before 2 g (omega arith) w
+none_before k le (suc (suc (suc zero))) g h w = k.before 3 g (omega arith) w
 none_before {t} {rest} {a} {b} {n} {ns} k le (suc (suc (suc (suc i)))) g h w =
     let inside : i < length ns = omega arith in
     let same = declared_once t n w.0 (line_at 3 k.begins (omega arith)) w.1 in
     ⊎_elim
-    (λ x. not_wrong line ranged same_range (raw (get_or ns i Not)) (nth (i + 4) t) g (node_line_at i k inside) (ranged_each ns i k.each inside) x.1)
+    (λ x. not_wrong line ranged same_range (raw (get_or ns i Not)) (nth (i + 4) t) g (node_line_at i k inside) (ranged_at ns i k.each) x.1)
     (λ y. let eq = y.0 in absurd (omega arith))
     w.3
 
@@ -245,7 +209,7 @@ next_is {t} {rest} {a} {b} {n} {ns} k = ap (λ j. nth j t) (sym (lines_long a b 
 rest_is : {t rest : List ℕ} {a b n : ℕ} {ns : List Node} → Noded t a b n ns rest → skip (length ns + 4) t ≡ Some rest
 rest_is {t} {rest} {a} {b} {n} {ns} k = ap (λ j. skip j t) (sym (lines_long a b n ns)) ∙ rest_next k.begins
 
-pub flaw_later : (t start : List ℕ) (a b n : ℕ) (f : LineFault) → Head4 t a b n start → Stopped start n f → Caught t f
+pub flaw_later : (t start : List ℕ) (a b n : ℕ) (f : LineFault) → Head t a b n start → Stopped start n f → Caught t f
 flaw_later t start a b n f h s =
     let ns = s.0 in
     let rest = s.1 in
@@ -270,14 +234,11 @@ flaw_later t start a b n f h s =
 -- the text of a mission in range has no flaw
 pub whole_noded : (t : List ℕ) (m : Shape) → t ≡ text m → InRange m → Noded t m.counts m.abilities (length m.nodes) m.nodes []
 whole_noded t m e r =
-    let ls = lines m.counts m.abilities (length m.nodes) m.nodes in
-    record {
-      begins = record { clean = clean_lines m.counts m.abilities (length m.nodes) m.nodes; is = e ∙ sym (append-nil (ended ls)) };
-      counts = r.few_counts;
-      abilities = r.few_abilities;
-      size = r.size;
-      each = r.each;
-    }
+    let ns = ended (map node_line m.nodes) in
+    let ls = lines m.counts m.abilities (length m.nodes) [] in
+    noded t ns [] m.counts m.abilities (length m.nodes) m.nodes
+    (head_of t ns m.counts m.abilities (length m.nodes) (e ∙ sym (ended_both ls (map node_line m.nodes))) r.few_counts r.few_abilities r.size)
+    (sym (append-nil ns), r.each)
 
 past_last : {t : List ℕ} {a b n : ℕ} {ns : List Node} → Noded t a b n ns [] → length ns ≡ n → (j : ℕ) (g : Flaw) → length ns + 4 ≤ j → Flawed t j g → ⊥
 past_last k eq zero g h w = absurd (omega arith)
@@ -297,7 +258,7 @@ no_flaw t m e r j g w =
     ⊎_elim (λ (lt : j < length m.nodes + 4). none_before k (omega arith) j g lt w) (λ (ge : length m.nodes + 4 ≤ j). past_last k refl j g ge w) (cases_lt j (length m.nodes + 4))
 
 -- nothing left after the nodes: the text is that of the mission
-pub all_read : (t start : List ℕ) (a b n : ℕ) (ns : List Node) → Head4 t a b n start → Taken start ns [] → length ns ≡ n → t ≡ ended (lines a b (length ns) ns)
+pub all_read : (t start : List ℕ) (a b n : ℕ) (ns : List Node) → Head t a b n start → Taken start ns [] → length ns ≡ n → t ≡ ended (lines a b (length ns) ns)
 all_read t start a b n ns h k e =
     let d = noded t start [] a b n ns h k in
     d.begins.is ∙ append-nil (ended (lines a b n ns)) ∙ ap (λ l. ended (lines a b l ns)) (sym e)

@@ -1,5 +1,6 @@
 -- The line of a node. A raw line has any whole numbers in its fields; a node's line is a raw line in range.
 use Rattle.std.specs.Prelude.{◌≡◌, ℕ, Bool, true, false, ◌&&◌, List, [], ◌∷◌, ℤ, pos, negsuc, Some, None, Ok, Err, codes, Option, Result, ◌≢◌}
+use Rattle.std.specs.List.{list_all}
 use Rattle.std.specs.Option.{option_map}
 use Rattle.text.specs.Numeral.{numeral, within}
 use Rattle.text.specs.Fields.{field, spaced}
@@ -121,8 +122,7 @@ raw (Count key least) = RCount (pos key) least.least.value
 raw (Ability key least) = RAbility (pos key) least.least.value (pos least.over.value)
 
 abbrev pub all_ranged : List Node → Bool
-all_ranged [] = true
-all_ranged (n ∷ ns) = ranged (raw n) && all_ranged ns
+all_ranged ns = list_all (λ n. ranged (raw n)) ns
 
 -- raw numbers held to their ranges: this is what they make, all in range, or they are out of range
 abbrev pub RangeJudged : {X Y : Type 0} → (X → Bool) → (Y → X) → X → Result Y Flaw → Type 0
@@ -143,9 +143,3 @@ LineJudged form good view xs (Err f) = Bad form good xs f
 -- a conversion is refused for no number of a range
 abbrev pub Covers : {T E : Type 0} → (ℤ → Result T E → Type 0) → ℤ → ℤ → Type 0
 Covers {T} {E} gives low high = (z : ℤ) (e : E) → within low high z ≡ true → gives z (Err e) → ⊥
-
--- the judgement of a line that is to declare a number of this name and range: it does, and this is what the number
--- converts to; or this is wrong with the line
-abbrev pub NumberJudged : {T E : Type 0} → (ℤ → Result T E → Type 0) → List ℕ → ℤ → ℤ → List ℕ → Result T Flaw → Type 0
-NumberJudged gives name low high xs (Ok n) = (z : ℤ) × gives z (Ok n) × (xs ≡ number_field name z) × (within low high z ≡ true)
-NumberJudged gives name low high xs (Err f) = Bad (number_field name) (within low high) xs f

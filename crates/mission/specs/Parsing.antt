@@ -1,5 +1,6 @@
 -- How a node line is read: its fields in order, each number as it is held.
 use Rattle.std.specs.Prelude.{ℕ, cond, List, [], ◌∷◌, ℤ, Some, None, codes, Option}
+use Rattle.std.specs.List.{find}
 use Rattle.std.specs.Option.{option_map}
 use Rattle.std.specs.Str.{bytes_eq}
 use Rattle.text.specs.Numeral.{kept}
@@ -21,14 +22,9 @@ inner_kinds = KGroup Seq ∷ KGroup Fall ∷ KGroup Mseq ∷ KGroup Mfall ∷ KP
 abbrev pub kinds : List NodeKind
 kinds = KSkill ∷ KCount ∷ KAbility ∷ inner_kinds
 
--- the first of these kinds whose word it is
-abbrev pub kind_among : List NodeKind → List ℕ → Option NodeKind
-kind_among [] w = None
-kind_among (k ∷ ks) w = cond (bytes_eq w (kind_word k)) (Some k) (kind_among ks w)
-
 -- the kind that a word names
 abbrev pub kind : List ℕ → Option NodeKind
-kind w = kind_among kinds w
+kind w = find (λ k. bytes_eq w (kind_word k)) kinds
 
 -- where a mark goes, by the word, the key and the weight
 abbrev pub target_of : Option ℤ → Option ℤ → List ℕ → Option RawTarget

@@ -1,14 +1,15 @@
 -- What each part of the text reader answers.
 use Rattle.std.specs.Prelude.{◌≡◌, ℕ, ◌+◌, ◌<◌, min, Bool, true, ◌&&◌, ◌⊎◌, List, [], ◌∷◌, ◌++◌, map, length, ℤ, Some, None, Ok, Err, Result, ◌≢◌}
-use Rattle.std.specs.Borrow.{Bor}
 use Rattle.text.specs.Numeral.{within}
 use Rattle.text.specs.Fields.{free, parted}
+use Rattle.text.specs.declared.line.Line.{Line}
 use Rattle.mission.specs.declared.node.Node.{Node}
 use Rattle.mission.specs.declared.flaw.Flaw.TheVariants.{Form}
 use Rattle.mission.specs.declared.line_fault.LineFault.{LineFault}
 use Rattle.mission.specs.declared.lines.Lines.{Lines}
+use Rattle.mission.specs.declared.outline.Declared.{Declared}
 use Rattle.mission.specs.Lines.{number_field, line, ranged, all_ranged}
-use Rattle.mission.specs.Texts.{ended, first_of, Wrong, node_line, FirstFlaw}
+use Rattle.mission.specs.Texts.{ended, heading, first_of, Wrong, node_line, FirstFlaw}
 
 -- a name that holds no byte that ends a name, a field or a line
 abbrev pub plain : List ℕ → Bool
@@ -19,8 +20,8 @@ abbrev pub next_number : ℕ → ℕ
 next_number k = min (k + 1) 4294967295
 
 -- the next line is taken, with its number; it is missing, or has no end, where there is none
-abbrev pub LineTaken : Lines → Result (Bor (List ℕ) × ℕ) LineFault → Lines → Type 0
-LineTaken before (Ok l) after = (parted 10 before.rest.now ≡ Some (l.0.now, after.rest.now)) × (after.line ≡ next_number before.line) × (l.1 ≡ after.line)
+abbrev pub LineTaken : Lines → Result Line LineFault → Lines → Type 0
+LineTaken before (Ok l) after = (parted 10 before.rest.now ≡ Some (l.text.now, after.rest.now)) × (after.line ≡ next_number before.line) × (l.number ≡ after.line)
 LineTaken before (Err f) after = (parted 10 before.rest.now ≡ None) × (f.flaw ≡ Form) × (f.line ≡ next_number before.line)
 
 -- the next line is read: it is of this form, in range, and what follows it is left; or it has this flaw
@@ -59,3 +60,9 @@ Stopped t n f =
 -- a line fault is the first flaw of a text
 abbrev pub Caught : List ℕ → LineFault → Type 0
 Caught t f = (k : ℕ) × (f.line ≡ k + 1) × FirstFlaw t k f.flaw
+
+-- the lines before the nodes are read: they declare these numbers, and what follows them is left; or the text has this
+-- first flaw
+abbrev pub HeadRead : Lines → Result Declared LineFault → Lines → Type 0
+HeadRead before (Ok d) after = (before.rest.now ≡ ended (heading d) ++ after.rest.now) × (after.line ≡ 4)
+HeadRead before (Err f) after = Caught before.rest.now f

@@ -4,4 +4,4 @@ use Rattle.mission.specs.Lawful.{Shape}
 use Rattle.mission.specs.declared.outline.Outline.{Outline}
 
 abbrev pub shape : Outline → Shape
-shape o = record { counts = o.counts; abilities = o.abilities; nodes = take o.len o.nodes }
+shape o = record { counts = o.declared.counts; abilities = o.declared.abilities; nodes = take o.declared.nodes o.nodes }

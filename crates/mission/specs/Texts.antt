@@ -4,6 +4,7 @@ use Rattle.std.specs.Option.{option_map}
 use Rattle.text.specs.Numeral.{within}
 use Rattle.text.specs.Fields.{field, parted, then}
 use Rattle.mission.specs.declared.node.Node.{Node}
+use Rattle.mission.specs.declared.outline.Declared.{Declared}
 use Rattle.mission.specs.declared.flaw.Flaw.{Flaw}
 use Rattle.mission.specs.declared.flaw.Flaw.TheVariants.{Form, Range}
 use Rattle.mission.specs.declared.tree_fault.TreeFault.{TreeFault}
@@ -32,6 +33,10 @@ nodes_line z = number_field (codes "nodes") z
 
 abbrev pub node_line : Node → List ℕ
 node_line n = line (raw n)
+
+-- all four, with the declared numbers
+abbrev pub heading : Declared → List (List ℕ)
+heading d = head_line tt ∷ counts_line (pos d.counts) ∷ abilities_line (pos d.abilities) ∷ nodes_line (pos d.nodes) ∷ []
 
 -- the lines of a mission that declares n nodes
 abbrev pub lines : ℕ → ℕ → ℕ → List Node → List (List ℕ)

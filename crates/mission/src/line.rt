@@ -9,8 +9,10 @@ use crate::node::{GroupKind, LoopKind, Node};
 use crate::ranges::node_of;
 use crate::raw::{NodeKind, RawNode, RawTarget};
 use text::field::Fields;
+use text::line::Line;
 
 // The kind of node that a word names.
+// Kept a function: all it can say of another word is None, and a TryFrom would need an error type.
 fn node_kind(word: &[u8]) -> Option<NodeKind>
     ensures { result ≡ kind_of_word word.now }
 {
@@ -94,17 +96,17 @@ fn filled(fields: Fields, kind: NodeKind) -> Option<RawNode>
 }
 
 // The line with the numbers that it writes, where it is of its form.
-fn parse(text: &[u8], line: u32) -> Option<RawNode>
-    ensures { result ≡ parsed text.now }
+fn parse(line: Line) -> Option<RawNode>
+    ensures { result ≡ parsed line.entry.text.now }
 {
-    let mut fields = Fields::of(text, line);
+    let mut fields = Fields::of(line);
     let kind = node_kind(fields.word(b"node")?)?;
     filled(fields, kind)
 }
 
 // The node of the line, or what is wrong with it.
-pub(crate) fn judge_line(text: &[u8], line: u32) -> Result<Node, Flaw>
-    ensures { LineJudged line_of ranged raw text.now result }
+pub(crate) fn judge_line(line: Line) -> Result<Node, Flaw>
+    ensures { LineJudged line_of ranged raw line.entry.text.now result }
 {
-    node_of(parse(text, line).ok_or(Flaw::Form)?)
+    node_of(parse(line).ok_or(Flaw::Form)?)
 }

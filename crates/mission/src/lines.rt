@@ -6,6 +6,7 @@ ghost use Rattle.mission.specs.declared.flaw.Flaw.TheVariants.{Form as NotOfForm
 use crate::flaw::Flaw;
 use crate::line_fault::LineFault;
 use text::cut::cut;
+use text::line::Line;
 
 // What is left of a text, and the number of the line that was taken last.
 #[derive(Drop)]
@@ -26,15 +27,18 @@ impl<'a> Lines<'a> {
         }
     }
 
-    // The next line, with its number. One that is missing, or has no end, is not of its form. The number
+    // The next line. One that is missing, or has no end, is not of its form. The number
     // stays at the last one, so that no caller owes a bound.
-    pub(crate) fn take(&mut self) -> Result<(&'a [u8], u32), LineFault>
+    pub(crate) fn take(&mut self) -> Result<Line<'a>, LineFault>
         ensures { LineTaken self.old result self.new }
     {
         self.line = self.line.saturating_add(1);
-        let (line, rest) = cut(self.rest, b'\n').ok_or(Flaw::Form.at(self.line))?;
+        let (text, rest) = cut(self.rest, b'\n').ok_or(Flaw::Form.at(self.line))?;
         self.rest = rest;
-        Ok((line, self.line))
+        Ok(Line {
+            text,
+            number: self.line,
+        })
     }
 
     // Nothing is left. A line that is left is not of its form.

@@ -7,7 +7,7 @@ ghost use Rattle.mission.specs.Trees.{Means, Inverse};
 
 use crate::mission::Mission;
 use crate::node::Node;
-use crate::outline::Outline;
+use crate::outline::{Declared, Outline};
 use entry::parts::CountThreshold;
 
 impl Mission {
@@ -19,11 +19,14 @@ impl Mission {
             key: 0,
             least: CountThreshold::ZERO,
         };
-        let outline = Outline {
+        let declared = Declared {
             counts: 1,
             abilities: 0,
+            nodes: 1,
+        };
+        let outline = Outline {
+            declared,
             nodes: [condition; 256],
-            len: 1,
         };
         Mission { outline }
     }
@@ -32,14 +35,14 @@ impl Mission {
     pub fn counts(&self) -> u8
         ensures { result ≡ (meaning self.now).counts }
     {
-        self.outline.counts
+        self.outline.declared.counts
     }
 
     // The declared number of abilities.
     pub fn abilities(&self) -> u8
         ensures { result ≡ (meaning self.now).abilities }
     {
-        self.outline.abilities
+        self.outline.declared.abilities
     }
 
     // The nodes in preorder. They mean one tree, and flattening a tree and reading it back are inverse.
@@ -47,7 +50,7 @@ impl Mission {
         ensures value { result.now ≡ (meaning self.now).nodes }
         ensures tree { Means (meaning self.now).nodes × Inverse }
     {
-        &self.outline.nodes[..usize::from(self.outline.len)]
+        self.outline.nodes()
     }
 
     // The number of skill leaves.

@@ -6,6 +6,7 @@ ghost use Rattle.mission.specs.Pages.{wrote};
 use itoa::Buffer;
 
 // The place is where the next byte goes: the number of bytes written, also of those past the page's end.
+// Kept: a lent page and a place on it, since the page may be too short and a `Vec` would allocate.
 #[derive(Drop)]
 pub(crate) struct Pen<'a> {
     page: &'a mut [u8],

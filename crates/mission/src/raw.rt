@@ -1,6 +1,7 @@
 use crate::node::{GroupKind, LoopKind};
 
 // What the first field of a node line says.
+// Kept beside the enums below: the definitions read a line's kind before its other fields.
 #[derive(Clone, Copy)]
 pub(crate) enum NodeKind {
     Group(GroupKind),
@@ -13,8 +14,8 @@ pub(crate) enum NodeKind {
 }
 
 // The last fields of a skill line, with their numbers as they are written.
-// Kept beside `Target`: there each number has a type of its own range, so one enum would need a type
-// parameter for each.
+// Kept beside `Target`: there each number has the type in which a mission keeps it, so one enum would
+// need a type parameter for each.
 #[derive(Clone, Copy)]
 pub(crate) enum RawTarget {
     Nowhere,

@@ -1,7 +1,7 @@
 ghost use Rattle.std.specs.Prelude.{◌≡◌, Some};
 ghost use Rattle.mission.specs.Faults.{tree_number, tree_layer, tree_line};
 ghost use Rattle.mission.specs.Words.{words};
-ghost use Rattle.mission.specs.declared.tree_fault.TreeFault.TheVariants.{Line as ALine};
+ghost use Rattle.mission.specs.declared.tree_fault.TreeFault.TheVariants.{Line as ALine, Node as ANode};
 
 use crate::breach::Breach;
 use crate::line_fault::LineFault;
@@ -16,6 +16,15 @@ use std::fmt;
 pub enum TreeFault {
     Line(LineFault),
     Node { breach: Breach, line: u32 },
+}
+
+impl Breach {
+    // This breach, at the line of its node.
+    pub(crate) fn at(self, line: u32) -> TreeFault
+        ensures { result ≡ ANode self line }
+    {
+        TreeFault::Node { breach: self, line }
+    }
 }
 
 impl From<LineFault> for TreeFault {

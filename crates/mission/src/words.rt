@@ -1,4 +1,5 @@
 // The words that the kinds of groups and loops have in a node line.
+// Kept beside the match that reads them (`line::node_kind`): to search the kinds by their words is no plainer.
 ghost use Rattle.std.specs.Prelude.{◌≡◌};
 ghost use Rattle.mission.specs.Lines.{group_word, loop_word};
 

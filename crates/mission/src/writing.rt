@@ -1,25 +1,25 @@
 // A mission's lines, written by a pen.
-ghost use Rattle.std.specs.Prelude.{◌≡◌, [], ◌∷◌, ◌++◌, pos, codes};
+ghost use Rattle.std.specs.Prelude.{◌≡◌, ◌∷◌, pos, codes};
 ghost use Rattle.std.specs.Option.{option_map};
 ghost use Rattle.text.specs.Fields.{field};
 ghost use Rattle.mission.specs.Lines.{or_none};
 ghost use Rattle.mission.specs.Pages.{wrote, Laid};
 ghost use Rattle.mission.specs.Pieces.{target_fields};
 ghost use Rattle.mission.specs.Shapes.{shape};
-ghost use Rattle.mission.specs.Texts.{ended, head_line, counts_line, abilities_line, nodes_line, node_line, text as text_of};
+ghost use Rattle.mission.specs.Texts.{ended, heading, node_line, text as text_of};
 
 use crate::node::{Node, Target};
-use crate::outline::Outline;
+use crate::outline::{Declared, Outline};
 use crate::pen::Pen;
 
 impl Pen<'_> {
     // The four lines before the nodes.
-    fn head(&mut self, counts: u8, abilities: u8, nodes: u16)
-        ensures { self.new ≡ wrote self.old (ended (head_line tt ∷ counts_line (pos counts) ∷ abilities_line (pos abilities) ∷ nodes_line (pos nodes) ∷ [])) }
+    fn head(&mut self, declared: Declared)
+        ensures { self.new ≡ wrote self.old (ended (heading declared)) }
     {
-        self.number("mission=1\ncounts=", counts);
-        self.number("\nabilities=", abilities);
-        self.number("\nnodes=", nodes);
+        self.number("mission=1\ncounts=", declared.counts);
+        self.number("\nabilities=", declared.abilities);
+        self.number("\nnodes=", declared.nodes);
         self.put("\n");
     }
 
@@ -96,8 +96,8 @@ pub(crate) fn lay(outline: &Outline, page: &mut [u8]) -> usize
     ensures { Laid (text_of (shape outline.now)) page.old page.new result }
 {
     let mut pen = Pen::over(page);
-    pen.head(outline.counts, outline.abilities, outline.len);
-    for node in &outline.nodes[..usize::from(outline.len)] {
+    pen.head(outline.declared);
+    for node in outline.nodes() {
         pen.line(*node);
         pen.put("\n");
     }

@@ -89,7 +89,7 @@ pub meant : (m : Mission) → Means (meaning m).nodes
 meant m =
     let o = m.outline in
     let l = shape_long o in
-    let s = o.some in
+    let s = o.declared.some in
     means (shape o) m.lawful (omega arith) o.in_range
 
 pub planted : (m : Mission) → (plan m).tree ≡ (meant m).tree

@@ -1,7 +1,8 @@
 -- A sitting's state, and its calls: each is refused by the first of its checks that holds, and a refusal
 -- changes nothing.
-use Rattle.std.specs.Prelude.{ℕ, suc, ◌+◌, ◌-◌, ◌*◌, Bool, true, false, cond, not, ◌||◌, List, [], ◌∷◌, length, map, Some, None, Option, ◌==◌, nat_lt}
-use Rattle.std.specs.List.{list_any, filter}
+use Rattle.std.specs.Prelude.{ℕ, suc, ◌+◌, ◌-◌, ◌*◌, Bool, true, false, not, ◌||◌, List, [], ◌∷◌, length, map, Some, None, Option, ◌==◌, nat_lt}
+use Rattle.std.specs.List.{list_any, filter, find}
+use Rattle.std.specs.Option.{option_map}
 use Rattle.bank.specs.Skills.{Skill}
 use Rattle.rules.specs.declared.sitting_fault.SittingFault.{SittingFault}
 use Rattle.rules.specs.declared.sitting_fault.SittingFault.TheVariants.{PlaceOpen, PlaceClosed, SkillBeyond, SkillRuns, SkillsDiffer, BoardSmall, TraceLength, TraceFull, OtherSlip}
@@ -117,8 +118,7 @@ close_checks o slip = (not (slip == o.number), OtherSlip) ∷ []
 
 -- the first check that holds
 abbrev pub first_of : List (Bool × SittingFault) → Option SittingFault
-first_of [] = None
-first_of (c ∷ cs) = cond c.0 (Some c.1) (first_of cs)
+first_of cs = option_map (λ c. c.1) (find (λ c. c.0) cs)
 
 abbrev pub unless : Option SittingFault → State → Answer × State → Answer × State
 unless None s r = r

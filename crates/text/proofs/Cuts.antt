@@ -3,6 +3,7 @@ use Rattle.std.proofs.Common.{◌≡◌, ℕ, zero, suc, ◌+◌, ◌<◌, ◌�
 use Rattle.std.proofs.lemmas.Int.Digits.{all_below_base_digits_of}
 use Rattle.std.proofs.lemmas.Slice.Eq.{bytes_eq-Decides}
 use Rattle.std.proofs.lemmas.Bool.{cond-true, cond-false, cases_Bool, cases_lt, lt-ltb, le-ltb, and_parts, and_from, not-true, eq-eqb}
+use Rattle.std.proofs.lemmas.List.Folds.{list_all-append}
 use Rattle.std.proofs.lemmas.List.Sums.{passes_at_first, fails_before_first}
 use Rattle.std.proofs.lemmas.Bool.Decides.{nat_tests}
 use Rattle.std.specs.Option.{option_map}
@@ -121,8 +122,7 @@ word_sound name r p e =
 
 -- texts that lack a byte
 pub free_append : (b : ℕ) (xs ys : List ℕ) → free b xs ≡ true → free b ys ≡ true → free b (xs ++ ys) ≡ true
-free_append b [] ys h k = k
-free_append b (x ∷ xs) ys h k = let a = and_parts (not (eqb x b)) (free b xs) h in and_from _ _ a.0 (free_append b xs ys a.1 k)
+free_append b xs ys h k = list_all-append (λ x. not (eqb x b)) xs ys ∙ and_from _ _ h k
 
 free_digits : (b : ℕ) (ds : List ℕ) → b < 48 → AllBelowBase 10 ds → free b (map (λ d. 48 + d) ds) ≡ true
 free_digits b [] h u = refl

@@ -1,5 +1,6 @@
 -- A line: fields with one space between, each a name, a `=` and a value.
-use Rattle.std.specs.Prelude.{ℕ, Bool, true, false, cond, not, ◌&&◌, ◌||◌, List, [], ◌∷◌, ◌++◌, ℤ, Some, None, Option, ◌==◌}
+use Rattle.std.specs.Prelude.{ℕ, Bool, false, cond, not, ◌||◌, List, [], ◌∷◌, ◌++◌, ℤ, Some, None, Option, ◌==◌}
+use Rattle.std.specs.List.{list_all}
 use Rattle.std.specs.Option.{option_map}
 use Rattle.std.specs.Str.{bytes_eq}
 use Rattle.text.specs.Numeral.{digit, kept, valued}
@@ -24,8 +25,7 @@ spaced w (v ∷ vs) = onto w (Some (spaced v vs))
 
 -- Whether a text has no byte b.
 abbrev pub free : ℕ → List ℕ → Bool
-free b [] = true
-free b (x ∷ xs) = not (x == b) && free b xs
+free b xs = list_all (λ x. not (x == b)) xs
 
 -- The two parts of a text with one byte more in front.
 abbrev pub front : ℕ → Option (List ℕ × List ℕ) → Option (List ℕ × List ℕ)

@@ -6,9 +6,11 @@ ghost use Rattle.text.specs.Fields.{numeric, parted, cut_or, word as word_of, nu
 ghost use Rattle.text.specs.Seen.{left, size, name_of, value_of, line_of, Took, TookField};
 
 use crate::cut::cut;
+use crate::line::Line;
 use crate::numeral::read_numeral;
 
 // A field as parts of the text, with its line; a value that begins with a digit or a minus is a number part.
+// Kept two variants of the same parts: the project wants a word and a number part told apart by the type.
 #[derive(Clone, Copy)]
 pub enum Field<'a> {
     Word {
@@ -97,13 +99,13 @@ impl<'a> Iterator for Fields<'a> {
 
 impl<'a> Fields<'a> {
     // All the fields of a line.
-    pub fn of(text: &'a [u8], line: u32) -> Fields<'a>
-        ensures rest { left result ≡ Some text.now }
-        ensures line { result.line ≡ line }
+    pub fn of(line: Line<'a>) -> Fields<'a>
+        ensures rest { left result ≡ Some line.entry.text.now }
+        ensures line { result.line ≡ line.entry.number }
     {
         Fields {
-            rest: Some(text),
-            line,
+            rest: Some(line.text),
+            line: line.number,
         }
     }
 

@@ -3,6 +3,7 @@
 
 pub mod cut;
 pub mod field;
+pub mod line;
 pub mod numeral;
 #[cfg(test)]
 mod tests;

@@ -1,4 +1,5 @@
 use crate::field::{Field, Fields};
+use crate::line::Line;
 use crate::numeral::read_numeral;
 use std::test::Fail;
 
@@ -28,9 +29,13 @@ fn other_texts_are_not(rt: HostRuntime) {
     assert_eq!(rt; read_numeral(b"1 "), None);
 }
 
+fn fields(text: &[u8], number: u32) -> Fields {
+    Fields::of(Line { text, number })
+}
+
 #[test]
 fn fields_are_taken(rt: HostRuntime) -> Result<(), Fail> {
-    let mut rest = Fields::of(b"node=par kids=2 need=-1", 3);
+    let mut rest = fields(b"node=par kids=2 need=-1", 3);
     let kind = rest.word(b"node").ok_or("no word")?;
     assert!(rt; kind == b"par".as_slice());
     assert_eq!(rt; rest.one_number(b"kids"), None);
@@ -41,7 +46,7 @@ fn fields_are_taken(rt: HostRuntime) -> Result<(), Fail> {
 
 #[test]
 fn a_field_has_its_line(rt: HostRuntime) -> Result<(), Fail> {
-    let mut rest = Fields::of(b"key=a=b", 7);
+    let mut rest = fields(b"key=a=b", 7);
     let field = rest.next().ok_or("no field")?;
     assert_eq!(rt; rest.end(), Some(()));
     assert!(rt; field.name() == b"key".as_slice() && field.value() == b"a=b".as_slice());
@@ -54,7 +59,7 @@ fn a_field_has_its_line(rt: HostRuntime) -> Result<(), Fail> {
 
 #[test]
 fn a_word_for_no_number(rt: HostRuntime) -> Result<(), Fail> {
-    let mut rest = Fields::of(b"device=none key=4", 1);
+    let mut rest = fields(b"device=none key=4", 1);
     let device = rest.number_or(b"device", b"none").ok_or("no device")?;
     assert_eq!(rt; device, None);
     let key = rest.number_or(b"key", b"none").ok_or("no key")?;
@@ -65,13 +70,13 @@ fn a_word_for_no_number(rt: HostRuntime) -> Result<(), Fail> {
 
 #[test]
 fn one_space_between(rt: HostRuntime) {
-    assert_eq!(rt; Fields::of(b"a=1  b=2", 1).two_numbers(b"a", b"b"), None);
-    assert_eq!(rt; Fields::of(b"a=1 ", 1).one_number(b"a"), None);
-    assert_eq!(rt; Fields::of(b"a=1", 1).one_number(b"a"), Some(1));
+    assert_eq!(rt; fields(b"a=1  b=2", 1).two_numbers(b"a", b"b"), None);
+    assert_eq!(rt; fields(b"a=1 ", 1).one_number(b"a"), None);
+    assert_eq!(rt; fields(b"a=1", 1).one_number(b"a"), Some(1));
 }
 
 #[test]
 fn fields_end_where_no_field_is(rt: HostRuntime) {
-    assert_eq!(rt; Fields::of(b"a=1 b c=2", 1).count(), 1);
-    assert_eq!(rt; Fields::of(b"a=1 b= c=2", 1).count(), 3);
+    assert_eq!(rt; fields(b"a=1 b c=2", 1).count(), 1);
+    assert_eq!(rt; fields(b"a=1 b= c=2", 1).count(), 3);
 }

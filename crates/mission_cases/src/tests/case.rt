@@ -7,7 +7,8 @@ use std::process::Abort;
 use std::test::Fail;
 
 // A text and its verdict: it is accepted, or refused with a number at a line.
-// Kept an enum of its own, not a Result beside a text: a row of a table reads as its verdict.
+// Kept an enum of its own, not a Result beside a text, and the refusal by its number: a row of a table
+// reads as its verdict, and as the list of refusals prints it.
 pub enum Case {
     Accepted(&'static [u8]),
     Refused(u8, u32, &'static [u8]),
@@ -83,9 +84,10 @@ impl<R: Abort + AllocGlobal> Trial<'_, R> {
     ) -> Result<(), Fail> {
         let rt = self.rt;
         let told = self.told;
-        let Err(fault) = place.read(text) else {
-            return Err(Fail::new(format_args!("the text is accepted: {told}")));
-        };
+        let fault = place
+            .read(text)
+            .err()
+            .ok_or_else(|| Fail::new(format_args!("the text is accepted: {told}")))?;
         assert_eq!(rt; (fault.number(), fault.line()), (number, line), "{told}");
         let layer = if number <= 2 {
             Layer::Text

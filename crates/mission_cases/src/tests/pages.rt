@@ -14,7 +14,7 @@ const MORE: usize = 300;
 // not written yet: they stand in no text, and neighbours differ.
 fn page(heap: Global, text: &[u8], len: usize) -> Result<Vec<u8>, AllocError> {
     let mut page = Vec::from_slice(heap, text)?;
-    page.extend((text.len()..len).map(|i| 128 + (i % 127) as u8))?;
+    page.extend((128..=254).cycle().take(len).skip(text.len()))?;
     Ok(page)
 }
 
@@ -45,9 +45,10 @@ impl<R: Abort + AllocGlobal> Trial<'_, R> {
         let rt = self.rt;
         let told = self.told;
         let mut lent = page(rt.alloc(), b"", len)?;
-        let Err(fault) = mission.write(lent.as_mut_slice()) else {
-            return Err(Fail::new(format_args!("the text is written: {told}")));
-        };
+        let fault = mission
+            .write(lent.as_mut_slice())
+            .err()
+            .ok_or_else(|| Fail::new(format_args!("the text is written: {told}")))?;
         assert_eq!(rt; (fault.number(), fault.line()), (21, 0), "{told}");
         assert_eq!(rt; fault.layer(), Layer::Text, "{told}");
         assert_eq!(rt; lent, page(rt.alloc(), b"", len)?, "{told}");

@@ -158,6 +158,7 @@ fn runs_have_their_verdicts(rt: HostRuntime) -> Result<(), Fail> {
 }
 
 // Judges a table of runs.
+// Kept beside `judge_whole` and `judge_nodes`: a call that is given a closure over the lent lines gets no proof.
 fn judge_runs<R: Abort + AllocGlobal>(rt: &R, runs: &[Run]) -> Result<Tally, Fail> {
     let heap = rt.alloc();
     let mut tally = [0; 8];
@@ -172,9 +173,7 @@ fn judge_runs<R: Abort + AllocGlobal>(rt: &R, runs: &[Run]) -> Result<Tally, Fai
 // The lines above the run, and the run.
 fn with_run(heap: Global, above: &[u8], times: usize, line: &[u8]) -> Result<Vec<u8>, AllocError> {
     let mut lines = Vec::from_slice(heap, above)?;
-    for _ in 0..times {
-        lines.extend_from_slice(line)?;
-    }
+    lines.extend_from_slice(line.repeat(heap, times)?.as_slice())?;
     Ok(lines)
 }
 

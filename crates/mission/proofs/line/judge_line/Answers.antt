@@ -9,9 +9,9 @@ pub returns-in_err-ok_or : goal.returns-in_err-ok_or
 returns-in_err-ok_or c =
     let none : c.parse.result ≡ None = search rules in
     let form : c.from_residual.result ≡ Err Form = search rules in
-    subst (LineJudged line ranged raw c.args.text.now) (sym form) (no_line c.args.text.now (sym none ∙ c.parse.ensures))
+    subst (LineJudged line ranged raw c.args.line.text.now) (sym form) (no_line c.args.line.text.now (sym none ∙ c.parse.ensures))
 
 pub returns : goal.returns
 returns c =
     let some : c.parse.result ≡ Some c.in_ok-ok_or.field-0 = search rules in
-    judged c.args.text.now c.in_ok-ok_or.field-0 c.node_of.result (sym some ∙ c.parse.ensures) c.node_of.ensures
+    judged c.args.line.text.now c.in_ok-ok_or.field-0 c.node_of.result (sym some ∙ c.parse.ensures) c.node_of.ensures

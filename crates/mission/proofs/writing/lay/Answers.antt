@@ -1,9 +1,9 @@
-use Rattle.std.proofs.Common.{◌≡◌, ℕ, ◌+◌, ◌<◌, List, [], ◌∷◌, ◌++◌, map, length, take, get_or, pos, sym, refl, ap, ◌∙◌, arith, rules}
+use Rattle.std.proofs.Common.{◌≡◌, ℕ, ◌+◌, ◌<◌, List, [], ◌∷◌, ◌++◌, map, length, take, get_or, sym, refl, ap, ◌∙◌, arith, rules}
 use Rattle.std.proofs.lemmas.List.{map-append, take_more, take_all}
 use Rattle.mission.specs.declared.node.Node.{Node}
 use Rattle.mission.specs.Pages.{wrote}
 use Rattle.mission.specs.Shapes.{shape}
-use Rattle.mission.specs.Texts.{ended, head_line, counts_line, abilities_line, nodes_line, node_line, text}
+use Rattle.mission.specs.Texts.{ended, heading, node_line, text}
 use Rattle.mission.proofs.Laying.{and_then, laid_text, same_name}
 use Rattle.mission.proofs.NodeLines.{ended_both}
 use Rattle.mission.proofs.Runs.{shape_long}
@@ -21,7 +21,7 @@ more ns i n h e =
 
 pub loop-node-preserved : goal.loop-node-preserved
 loop-node-preserved c =
-    let ns = take c.from.result c.args.outline.now.nodes in
+    let ns = c.nodes-node-items.result.now in
     let i = c.loop-node.node-index in
     and_then _ _ _ _ _ c.loop-node.invariant (and_then _ _ _ _ _ c.line.ensures c.put.ensures) ∙ ap (wrote c.head.new.self) (more ns i c.node-item.result (omega arith) c.node-item.is)
 
@@ -31,11 +31,9 @@ returns c =
     let ns = (shape o).nodes in
     let p = c.over-pen.result in
     let l = shape_long o in
-    let heads = head_line tt ∷ counts_line (pos o.counts) ∷ abilities_line (pos o.abilities) ∷ nodes_line (pos o.len) ∷ [] in
-    let laid_nodes = take c.from.result o.nodes in
-    let same : laid_nodes ≡ ns = ap (λ k. take k o.nodes) c.from.ensures in
-    let all : take c.loop-node.node-index laid_nodes ≡ ns = take_all c.loop-node.node-index laid_nodes (omega arith) ∙ same in
-    let is : ended heads ++ ended (map node_line (take c.loop-node.node-index laid_nodes)) ≡ text (shape o) = rw all (rw l (ended_both heads (map node_line ns))) in
+    let items = c.nodes-node-items.result.now in
+    let all : take c.loop-node.node-index items ≡ ns = take_all c.loop-node.node-index items (omega arith) ∙ c.nodes-node-items.ensures in
+    let is : ended (heading o.declared) ++ ended (map node_line (take c.loop-node.node-index items)) ≡ text (shape o) = rw all (rw l (ended_both (heading o.declared) (map node_line ns))) in
     let whole : c.loop-node.pen ≡ wrote p (text (shape o)) = and_then _ _ _ _ _ c.head.ensures c.loop-node.invariant ∙ ap (wrote p) is in
     let name = ap (λ x. x.page.ghost_name) whole ∙ same_name p (text (shape o)) ∙ ap (λ x. x.ghost_name) c.over-pen.ensures.page in
     let page = ap (λ x. x.now) c.over-pen.ensures.page in

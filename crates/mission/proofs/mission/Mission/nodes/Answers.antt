@@ -9,5 +9,5 @@ returns-clause-tree c =
     let m = c.args.self.now in
     let o = m.outline in
     let l = shape_long o in
-    let s = o.some in
+    let s = o.declared.some in
     (means (shape o) m.lawful (omega arith) o.in_range, inverse)

@@ -1,27 +1,22 @@
-use Rattle.std.proofs.Common.{sym, ◌∙◌}
-use Rattle.std.proofs.lemmas.Result.{err_from_is_err_and}
+use Rattle.std.proofs.Common.{sym, refl, ◌∙◌}
 use Rattle.mission.specs.declared.mission.Mission.{Mission}
 use Rattle.mission.specs.Shapes.{shape}
-use Rattle.mission.proofs.Accepting.{outline_ranged, faultless, first_line_fault, first_tree_fault, given_back, refused_outcome, refused_back}
+use Rattle.mission.proofs.Accepting.{outline_ranged, faultless, first_line_fault, first_tree_fault, given_back, not_refused}
+use Rattle.mission.proofs.Handed.{handed}
 use Rattle.mission.proofs.mission.Mission.read.Goals as goal
 
 pub returns-in_err-outline : goal.returns-in_err-outline
 returns-in_err-outline c =
     let t = c.args.text.now in
-    let p = err_from_is_err_and c.from_residual.result c.from_residual.ensures.1 in
     let h = first_line_fault t c.in_err-outline.field-0.0 c.in_err-outline.ensures in
-    record { outcome = refused_outcome t c.from_residual.result _ c.args.self.now p h; back = refused_back t c.from_residual.result _ c.args.self.now p h }
+    rw (handed c.from_residual.result c.from_residual.ensures.1) (record { outcome = (h, refl); back = λ m e. not_refused t _ m h e })
 
 pub returns-in_err-judge : goal.returns-in_err-judge
 returns-in_err-judge c =
     let t = c.args.text.now in
     let o = c.in_ok-outline.outline in
-    let p = err_from_is_err_and c.from_residual-in_err-judge.result c.from_residual-in_err-judge.ensures.1 in
     let h = first_tree_fault t (shape o) _ c.in_ok-outline.ensures (outline_ranged o) c.in_err-judge.ensures in
-    record {
-      outcome = refused_outcome t c.from_residual-in_err-judge.result _ c.args.self.now p h;
-      back = refused_back t c.from_residual-in_err-judge.result _ c.args.self.now p h;
-    }
+    rw (handed c.from_residual-in_err-judge.result c.from_residual-in_err-judge.ensures.1) (record { outcome = (h, refl); back = λ m e. not_refused t _ m h e })
 
 pub returns : goal.returns
 returns c =

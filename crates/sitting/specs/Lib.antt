@@ -1,0 +1,17 @@
+pub mod Desks
+pub mod Acts
+pub mod Tables
+pub mod Halting
+pub mod Turns
+pub mod Zipper
+pub mod Tidy
+pub mod Cells
+pub mod Seats
+pub mod Ruled
+pub mod Ends
+pub mod Reviving
+pub mod Fronts
+pub mod Keeping
+pub mod Opened
+pub mod Agreeing
+pub mod Places

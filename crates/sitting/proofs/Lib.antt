@@ -15,6 +15,7 @@ pub mod Stepping
 pub mod Masks
 pub mod ParStepping
 pub mod Simulating
+pub mod Entered
 pub mod Seated
 pub mod Overlaying
 pub mod Following

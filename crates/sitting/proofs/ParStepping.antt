@@ -38,7 +38,7 @@ size_after no_kids = refl
 size_after (kid pending x ks) = ap suc (size_after ks)
 size_after (kid (ended b) x ks) = ap suc (size_after ks)
 
-nodes_after : (ks : Kids) → nodes_in (after_par ks) ≡ nodes_in ks
+pub nodes_after : (ks : Kids) → nodes_in (after_par ks) ≡ nodes_in ks
 nodes_after no_kids = refl
 nodes_after (kid pending x ks) = ap₂ (λ (a b : ℕ). a + b) (nodes_cleared x) (nodes_after ks)
 nodes_after (kid (ended b) x ks) = ap (λ n. nodes x + n) (nodes_after ks)

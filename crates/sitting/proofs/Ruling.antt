@@ -1,5 +1,5 @@
 -- What the tables give is what the rules give.
-use Rattle.std.proofs.Common.{◌≡◌, ℕ, List, [], length, Result, sym, refl, ap, ◌∙◌, subst, zero-add}
+use Rattle.std.proofs.Common.{◌≡◌, ℕ, List, [], length, Result, sym, refl, ap, ◌∙◌, subst, zero-add, arith}
 use Rattle.bank.specs.Skills.{Skill}
 use Rattle.mission.specs.Trees.{Tree}
 use Rattle.rules.specs.declared.line.Line.{Line}
@@ -10,17 +10,18 @@ use Rattle.rules.specs.Live.{Live, cleared}
 use Rattle.rules.specs.Visiting.{Visit, gives, visit, halt}
 use Rattle.rules.proofs.Shapes.{bare, bare_cleared, Shaped, visit_shaped}
 use Rattle.sitting.specs.Agreeing.{SameSizes, Works, LeafFits}
-use Rattle.sitting.specs.Desks.{Boards}
+use Rattle.sitting.specs.Desks.{bench, Boards}
 use Rattle.sitting.specs.Halting.{desk, Halted as Walked, halt_range}
-use Rattle.sitting.specs.Ruled.{named, Agreement, Sits, Visited, VisitsByTheRules, Halted, HaltsByTheRules, agreeing, holding}
+use Rattle.sitting.specs.Ruled.{named, Agreement, Sits, Visited, VisitsByTheRules, EntersOnce, Halted, HaltsByTheRules, agreeing, holding}
 use Rattle.sitting.specs.Seats.{Seated}
 use Rattle.sitting.specs.Tables.{end_at}
 use Rattle.sitting.specs.Turns.{stage, visited, Visited as Turned}
-use Rattle.sitting.specs.Zipper.{nodes}
+use Rattle.sitting.specs.Zipper.{nodes, down}
 use Rattle.sitting.specs.declared.frame.Frame.{Frame}
 use Rattle.sitting.specs.declared.executive.Executive.{Executive}
 use Rattle.sitting.specs.declared.turn.Turn.TheVariants.{Enter}
 use Rattle.sitting.proofs.Agreements.{same_sizes}
+use Rattle.sitting.proofs.Entered.{enters_rising}
 use Rattle.sitting.proofs.Fitting.{mission_once, mission_ranged}
 use Rattle.sitting.proofs.Mirroring.{Fitting, Working, stops_agreeing, stops_holding, mirrors}
 use Rattle.sitting.proofs.Mirrors.{StopsAlike}
@@ -62,6 +63,23 @@ visits_by_the_rules s bank boards rows r z K bank_after boards_after rows_after 
       same = record { mission = refl; ends = refl };
       sizes = v.holds.1;
     })
+
+-- a visit enters each node at most once
+pub visit_enters_once : (s : Executive) (bank : List Skill) (boards : Boards) (rows : List Line) (r : Result Status SittingFault) (z : Executive) (K : List Frame) (bank_after : List Skill) (boards_after : Boards) (rows_after : List Line) →
+    (r, stage z K bank_after boards_after rows_after) ≡ visited 1024 (Enter 0) (stage s [] bank boards rows) →
+    EntersOnce s bank boards rows r z bank_after boards_after rows_after
+visit_enters_once s bank boards rows r z K bank_after boards_after rows_after e =
+    record {
+      stack = K;
+      turns = e;
+      rising =
+          λ t base x w h.
+          let us = named s in
+          let d = h.seated.shallow in
+          enters_rising s (in_tick us t) (Working us t base w) (Fitting us t base w) (mirrors us t base w (mission_ranged s.mission) (mission_once s.mission)) 1024
+          (down x w []) (Enter 0) s.memories [] (bench bank rows s.ledger) boards (h.seated.tidy, tt) (omega arith, tt)
+          (refl, h.seated.laid, tt, record { stack = refl; world = (h.agrees, same_sizes w); long = h.seated.long });
+    }
 
 -- a halt, by either agreement
 module _ (R : Agreement) (t : ℕ) (base : List Line) where

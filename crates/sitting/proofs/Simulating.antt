@@ -60,7 +60,7 @@ module _ (s : Executive) (A : Actions) (R : A.World → Bench → Boards → Typ
   follows (up a w f x (in_loop p times n ∷ K)) t ms S b o ti fi e h = follows_at s A R P _ t _ ms S b o h.0 (loop_heard s A R P p times n a w f x K ms S b o h.1 h.2 h.3)
 
   -- before the end the root has not answered
-  not_over : (c : Config A.World) (t : Turn) (ms : List Memory) (S : List Spot) (b : Bench) (o : Boards) → is_end c ≡ false → Shown s A R P c t ms S b o → outcome t S ≡ None
+  pub not_over : (c : Config A.World) (t : Turn) (ms : List Memory) (S : List Spot) (b : Bench) (o : Boards) → is_end c ≡ false → Shown s A R P c t ms S b o → outcome t S ≡ None
   not_over (down x w K) t ms S b o e h = ap (λ u. outcome u S) h.0
   not_over (look_group p m bs ks w K) t ms S b o e h = ap (λ u. outcome u S) h.1
   not_over (look_par n bs g ks w K) t ms S b o e h = ap (λ u. outcome u S) h.0

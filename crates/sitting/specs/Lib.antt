@@ -3,6 +3,7 @@ pub mod Acts
 pub mod Tables
 pub mod Halting
 pub mod Turns
+pub mod Entering
 pub mod Zipper
 pub mod Tidy
 pub mod Cells

@@ -1,5 +1,5 @@
 -- A visit and a halt of the root, as the rules have them.
-use Rattle.std.specs.Prelude.{◌≡◌, ℕ, List, length, Ok, Result}
+use Rattle.std.specs.Prelude.{◌≡◌, ℕ, List, [], length, Ok, Result}
 use Rattle.bank.specs.Skills.{Skill}
 use Rattle.rules.specs.declared.line.Line.{Line}
 use Rattle.rules.specs.declared.sitting_fault.SittingFault.{SittingFault}
@@ -11,8 +11,12 @@ use Rattle.rules.specs.Visiting.{gives, visit, halt}
 use Rattle.rules.proofs.Shapes.{bare}
 use Rattle.sitting.specs.Agreeing.{Holds, SameSizes, Agrees, Works, LeafFits}
 use Rattle.sitting.specs.Desks.{Bench, bench, Boards}
+use Rattle.sitting.specs.Entering.{entered_in, Rising}
 use Rattle.sitting.specs.Seats.{Seated}
+use Rattle.sitting.specs.Turns.{stage, visited}
 use Rattle.sitting.specs.declared.executive.Executive.{Executive}
+use Rattle.sitting.specs.declared.frame.Frame.{Frame}
+use Rattle.sitting.specs.declared.turn.Turn.TheVariants.{Enter}
 
 -- the named skills of a sitting's mission
 abbrev pub named : Executive → Users
@@ -49,6 +53,13 @@ abbrev pub VisitsByTheRules : Executive → List Skill → Boards → List Line 
 VisitsByTheRules s bank boards rows r z bank_after boards_after rows_after =
     (t : ℕ) (base : List Line) (x : Live) (w : World) → Sits (λ us. Works us t base) s x w bank boards rows →
     Visited t (λ us. Works us t base) s x w r z bank_after boards_after rows_after
+
+-- In one visit each node is entered at most once, in preorder: the visit leaves what its turns leave, and the
+-- places that these turns enter rise.
+pub record EntersOnce (s : Executive) (bank : List Skill) (boards : Boards) (rows : List Line) (r : Result Status SittingFault) (z : Executive) (bank_after : List Skill) (boards_after : Boards) (rows_after : List Line) : Type 0 where
+  pub stack : List Frame
+  pub turns : (r, stage z stack bank_after boards_after rows_after) ≡ visited 1024 (Enter 0) (stage s [] bank boards rows)
+  pub rising : (t : ℕ) (base : List Line) (x : Live) (w : World) → Sits (λ us. Works us t base) s x w bank boards rows → Rising 0 (entered_in 1024 (Enter 0) (stage s [] bank boards rows))
 
 -- a halt of the root leaves what the rules leave
 pub record Halted (t : ℕ) (R : Agreement) (s : Executive) (x : Live) (w : World) (r : Result Unit SittingFault) (z : Executive) (bank : List Skill) (boards : Boards) (rows : List Line) : Type 0 where

@@ -1,6 +1,6 @@
 // A visit of the root: a loop over a plain stack.
 ghost use Rattle.std.specs.Prelude.{◌≡◌, []};
-ghost use Rattle.sitting.specs.Ruled.{VisitsByTheRules};
+ghost use Rattle.sitting.specs.Ruled.{VisitsByTheRules, EntersOnce};
 ghost use Rattle.sitting.specs.Turns.{stage, turned, outcome, visited};
 ghost use Rattle.sitting.specs.declared.turn.Turn.TheVariants.{Enter as Entering};
 
@@ -81,7 +81,8 @@ impl Executive {
         abilities: &mut A,
         trace: &mut [Line],
     ) -> Result<Status, SittingFault>
-        ensures { VisitsByTheRules self.old (B.Bank.skills bank.old) (C.Board.entries counts.old, A.Board.entries abilities.old) trace.old result self.new (B.Bank.skills bank.new) (C.Board.entries counts.new, A.Board.entries abilities.new) trace.new }
+        ensures by_the_rules { VisitsByTheRules self.old (B.Bank.skills bank.old) (C.Board.entries counts.old, A.Board.entries abilities.old) trace.old result self.new (B.Bank.skills bank.new) (C.Board.entries counts.new, A.Board.entries abilities.new) trace.new }
+        ensures once { EntersOnce self.old (B.Bank.skills bank.old) (C.Board.entries counts.old, A.Board.entries abilities.old) trace.old result self.new (B.Bank.skills bank.new) (C.Board.entries counts.new, A.Board.entries abilities.new) trace.new }
     {
         self.take_turns(bank, counts, abilities, trace)
     }

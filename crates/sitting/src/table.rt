@@ -1,5 +1,5 @@
 // What an executive knows of the node at a place.
-ghost use Rattle.std.specs.Prelude.{◌≡◌, ◌+◌, min};
+ghost use Rattle.std.specs.Prelude.{◌≡◌};
 ghost use Rattle.mission.specs.Missions.{meaning};
 ghost use Rattle.mission.specs.Places.{node_at};
 ghost use Rattle.sitting.specs.Tables.{end_at, memory_at, with_memory, ahead_of, results_of, count_of, beyond};

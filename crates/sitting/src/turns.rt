@@ -1,15 +1,13 @@
-// One turn of a visit.
-ghost use Rattle.std.specs.Prelude.{◌≡◌, min};
+// A node is entered, and a child with it.
+ghost use Rattle.std.specs.Prelude.{◌≡◌};
 ghost use Rattle.mission.specs.Missions.{meaning};
 ghost use Rattle.mission.specs.Places.{node_at};
-ghost use Rattle.sitting.specs.Halting.{desk};
-ghost use Rattle.sitting.specs.Turns.{stage, descended, next, first_child, entered, looked, answered, turned, halt_open, is_last};
+ghost use Rattle.sitting.specs.Turns.{stage, descended, next, first_child, entered, is_last};
 
 use crate::executive::Executive;
 use crate::frame::Frame;
-use crate::kinds::{counted, counts_after, exchanged, goes_on_after, onward, remembers, verdict};
+use crate::kinds::verdict;
 use crate::leaf::SkillLeaf;
-use crate::memory::{Memory, Results};
 use crate::table::beyond;
 use crate::turn::Turn;
 use arrayvec::ArrayVec;
@@ -17,7 +15,7 @@ use bank::banks::Bank;
 use board::boards::Board;
 use board::entering::meets;
 use entry::parts::{Ability, Count};
-use mission::node::{GroupKind, LoopKind, Node};
+use mission::node::Node;
 use rules::line::Line;
 use rules::sitting_fault::SittingFault;
 use rules::status::Status;

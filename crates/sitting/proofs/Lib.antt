@@ -32,3 +32,4 @@ pub mod Keepings
 pub mod Growing
 pub mod Calls
 pub mod Ruling
+pub mod Checking

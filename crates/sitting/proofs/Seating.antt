@@ -58,7 +58,7 @@ module _ (P : Leaf → Type 0) where
     all_fine_fresh nil h e = tt
     all_fine_fresh (cons t ts) h e = let p = ranged_append (flatten t) (flattens ts) h in (fine_fresh t p.0 e.0, all_fine_fresh ts p.1 e.1)
 
-plan_written : (m : Mission) → flatten (plan m).tree ≡ (meaning m).nodes
+pub plan_written : (m : Mission) → flatten (plan m).tree ≡ (meaning m).nodes
 plan_written m = ap flatten (planted m) ∙ (meant m).written
 
 mission_size : (m : Mission) → length (meaning m).nodes ≤ 256

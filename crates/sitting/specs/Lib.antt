@@ -16,3 +16,4 @@ pub mod Keeping
 pub mod Opened
 pub mod Agreeing
 pub mod Places
+pub mod Checks

@@ -2,6 +2,7 @@
 #![tactic(auto)]
 
 mod answering;
+mod checks;
 mod executive;
 mod frame;
 mod halting;

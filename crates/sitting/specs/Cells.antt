@@ -1,6 +1,6 @@
 -- What the nodes of a live tree remember, in preorder.
 use Rattle.std.specs.Prelude.{ℕ, zero, suc, Bool, true, false, cond, List, [], ◌∷◌, ◌++◌, map}
-use lib.Lanes.{mask_l}
+use Rattle.std.specs.Simd.Lanes.{mask_l}
 use Rattle.rules.specs.Live.{Kept, pending, ended, Live, live_leaf, live_group, live_par, live_not, live_loop, Kids, no_kids, kid}
 use Rattle.rules.specs.Visiting.{is_pass, is_fail}
 use Rattle.sitting.specs.Zipper.{leading, nodes_in}

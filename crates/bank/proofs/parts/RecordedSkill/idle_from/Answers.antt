@@ -1,8 +1,7 @@
-use Rattle.std.proofs.Common.{◌≡◌, true, false, Some, None, refl, arith, rules}
+use Rattle.std.proofs.Common.{◌≡◌, true, false, Some, None, refl, arith, rules, tests}
 use Rattle.std.proofs.lemmas.Iterator.{YieldsList-from_slice, first_from_find}
 use Rattle.std.proofs.lemmas.Iterator.Adapters.{YieldsList-from_skip}
 use Rattle.std.proofs.lemmas.Iterator.Consumers.{YieldsList-from_enumerate}
-use borrow.Author.Tests.{tests}
 use Rattle.bank.proofs.Records.{idle_found, idle_past, is_for}
 use Rattle.bank.proofs.parts.RecordedSkill.idle_from.Goals as goal
 

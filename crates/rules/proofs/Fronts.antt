@@ -15,6 +15,7 @@ use Rattle.rules.specs.Visiting.{Actions, halt, halt_kids, halt_later, halt_pend
 use Rattle.rules.proofs.Standing.{Other, Absent, absent_leaf, absent_group, absent_par, absent_not, absent_loop, AbsentIn, absent_none, absent_kid}
 use Rattle.rules.proofs.Standing.{Stands, at_leaf, at_group, at_par, at_not, at_loop, StandsGroup, group_here, group_kept, group_past, group_free, group_waits, StandsPar, par_here, par_kept, par_there, Somewhere, SomewhereGroup}
 use Rattle.rules.proofs.Standing.{forget_absent, after_par_absent, later_absent, pending_before, clear_stands_group, forget_stands, after_par_stands, gone_past, left_behind}
+pub use Rattle.rules.specs.Stands.{Quiet}
 
 -- what the leaves of a world have to do for it
 pub record Obeyed (A : Actions) (on : A.World → ℕ → Bool) : Type 0 where
@@ -22,10 +23,6 @@ pub record Obeyed (A : Actions) (on : A.World → ℕ → Bool) : Type 0 where
   pub other : (k : ℕ) (l : Leaf) → Other k l → (w : A.World) → on (A.visit_leaf l w).1 k ≡ on w k
   pub stop_own : (k : ℕ) (d : Option ℕ) (t : Target) (w : A.World) → on (A.stop_leaf (skill k d t) w) k ≡ false
   pub stop_other : (k : ℕ) (l : Leaf) → Other k l → (w : A.World) → on (A.stop_leaf l w) k ≡ on w k
-
--- a place that must be quiet is
-abbrev pub Quiet : Bool → Bool → Type 0
-Quiet b running = b ≡ false → running ≡ false
 
 module _ (W : Type 0) (on : W → ℕ → Bool) (k : ℕ) where
   -- where the skill does not stand: it runs as before (c), and is not on the front

@@ -7,32 +7,10 @@ use Rattle.mission.specs.declared.node.LoopKind.TheVariants.{Retry, Repeat}
 use Rattle.mission.specs.Trees.{Tree, leaf, group, par, neg, again, Trees, nil, cons}
 use Rattle.rules.specs.declared.status.Status.{Status}
 use Rattle.rules.specs.declared.status.Status.TheVariants.{Run, Pass, Fail}
-use Rattle.rules.specs.Live.{Polarity, on_pass, on_fail, goes_on, remembers, counts_on, Kept, pending, ended, Live, live_leaf, live_group, live_par, live_not, live_loop, Kids, no_kids, kid, fresh, fresh_kids, cleared, cleared_kids, forgotten}
+use Rattle.rules.specs.Live.{Polarity, goes_on, remembers, counts_on, Kept, pending, ended, Live, live_leaf, live_group, live_par, live_not, live_loop, Kids, no_kids, kid, fresh, fresh_kids, cleared, cleared_kids, forgotten}
 use Rattle.rules.specs.Visiting.{Visit, gives, moves_on, kept_as, behind, later, in_front, go_on_or_stop, group_step, group_end, size, passes, fails, verdict, after_par, beside, par_step, par_end, not_end, count_or_end, loop_step, loop_end}
 use Rattle.rules.specs.Visiting.{Actions, halt_later, halt_pending, par_decided, visit, visit_group, visit_par}
-
-abbrev pub kind_of : Polarity → Bool → GroupKind
-kind_of on_pass true = Mseq
-kind_of on_pass false = Seq
-kind_of on_fail true = Mfall
-kind_of on_fail false = Fall
-
-abbrev pub loop_of : Polarity → LoopKind
-loop_of on_pass = Repeat
-loop_of on_fail = Retry
-
--- the tree of a live tree
-abbrev mutual
-  pub bare : Live → Tree
-  bare (live_leaf l) = leaf l
-  bare (live_group p m ks) = group (kind_of p m) (bare_kids ks)
-  bare (live_par need ks) = par need (bare_kids ks)
-  bare (live_not x) = neg (bare x)
-  bare (live_loop p times n x) = again (loop_of p) times (bare x)
-
-  pub bare_kids : Kids → Trees
-  bare_kids no_kids = nil
-  bare_kids (kid r x ks) = cons (bare x) (bare_kids ks)
+pub use Rattle.rules.specs.Bare.{kind_of, loop_of, bare, bare_kids}
 
 same_kind : (kind : GroupKind) → kind_of (goes_on kind) (remembers kind) ≡ kind
 same_kind Seq = refl

@@ -2,6 +2,8 @@ pub mod Statuses
 pub mod Lines
 pub mod Faults
 pub mod Live
+pub mod Bare
+pub mod Stands
 pub mod Visiting
 pub mod Leaves
 pub mod Regrouping

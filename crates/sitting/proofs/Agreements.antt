@@ -15,9 +15,8 @@ use Rattle.rules.specs.Leaves.{World, Users, skill_at, visit_leaf, stop_leaf, st
 use Rattle.rules.specs.Statuses.{verdict_of}
 use Rattle.sitting.specs.Acts.{Outcome, visit_skill, stop_skill}
 use Rattle.sitting.specs.Agreeing.{Named, Once, Ranged, Wide, Holds, bench_for, boards_for, Agrees, Works, SameSizes, KeyBelow, LeafFits}
-use Rattle.sitting.specs.Desks.{Bench, bench, Boards}
+use Rattle.sitting.specs.Desks.{Bench, Boards}
 use Rattle.sitting.specs.Halting.{Desk, bench_of, halt_node, bench_halted}
-use Rattle.sitting.specs.Turns.{Stage, entered, skill_entered}
 use Rattle.sitting.proofs.Leaving.{visit_reached, stop_reached}
 
 -- the code's answer is that of the rules, and its bench and boards work with the world after it
@@ -93,12 +92,6 @@ abbrev pub leaf_stopped : Leaf → Bench → Result Unit SittingFault × Bench
 leaf_stopped (skill k device target) b = stop_skill k b
 leaf_stopped (count key least) b = (Ok tt, b)
 leaf_stopped (ability key least) b = (Ok tt, b)
-
--- the code enters and halts a leaf's node so
-pub leaf_entered : (l : Leaf) (i : ℕ) (g : Stage) → entered (leaf_node l) i g ≡ skill_entered (leaf_visited l (bench g.bank g.rows g.sitting.ledger) g.boards) g
-leaf_entered (skill k device target) i g = refl
-leaf_entered (count key least) i g = refl
-leaf_entered (ability key least) i g = refl
 
 pub leaf_halted : (l : Leaf) (d : Desk) → halt_node (leaf_node l) d ≡ bench_halted d (leaf_stopped l (bench_of d))
 leaf_halted (skill k device target) d = refl

@@ -7,14 +7,14 @@ use Rattle.rules.specs.declared.line.Line.{Line}
 use Rattle.rules.specs.declared.word.Word.{Word}
 use Rattle.rules.specs.Leaves.{World, Users, runs_in, noted}
 use Rattle.rules.specs.Lines.{line}
-use Rattle.rules.specs.Sittings.{named_on, has, any_beyond, any_runs, unlike, any_differs, root_noted}
-use Rattle.rules.proofs.Naming.{numbers, has_named_on}
-use Rattle.sitting.specs.Agreeing.{Named, Wide, holder_of, Holds, Follows, laid_over, bench_for, boards_for, Agrees, Works, Fronted}
+use Rattle.rules.specs.Sittings.{has, any_beyond, unlike, any_differs, root_noted}
+use Rattle.rules.proofs.Naming.{numbers}
+use Rattle.sitting.specs.Agreeing.{Named, Wide, holder_of, Holds, laid_over, bench_for, boards_for, Agrees, Works, Fronted}
 use Rattle.sitting.specs.Desks.{Bench, bench, Boards, state_of, is_running, one_used, noted as noted_on_bench}
 use Rattle.sitting.specs.declared.leaf_state.LeafState.TheVariants.{Idle}
 use Rattle.sitting.specs.declared.ledger.Ledger.{Ledger}
 use Rattle.sitting.proofs.Overlaying.{laid_more, length_laid, laid_again, take_laid, drop_laid}
-use Rattle.sitting.proofs.Following.{line_follows, line_holds}
+use Rattle.sitting.proofs.Following.{line_follows}
 
 -- the checks
 
@@ -39,11 +39,6 @@ none_differs (u ∷ us) bank front e k d (inl q) =
     alike (runs_in bank k) (has k front) (ap (λ (j : ℕ). unlike (runs_in bank j) (has j front)) (sym q.0) ∙ h)
 none_differs (u ∷ us) bank front e k d (inr n) =
     none_differs us bank front (or_parts (unlike (runs_in bank u.0) (has u.0 front)) (any_differs us bank front) e).1 k d n
-
-pub none_runs : (us : Users) (bank : List Skill) → any_runs us bank ≡ false → (k : ℕ) (d : Option ℕ) → Named us k d → runs_in bank k ≡ false
-none_runs [] bank e k d n = absurd n
-none_runs (u ∷ us) bank e k d (inl q) = ap (runs_in bank) (sym q.0) ∙ (or_parts (runs_in bank u.0) (any_runs us bank) e).0
-none_runs (u ∷ us) bank e k d (inr n) = none_runs us bank (or_parts (runs_in bank u.0) (any_runs us bank) e).1 k d n
 
 -- a call begins
 
@@ -98,9 +93,6 @@ module _ (us : Users) (t : ℕ) (base : List Line) (w : World) (b : Bench) (s : 
     follows = line_follows us t (length base) w.bank w.lines b.ledger (line t v k m) b.rows (ap length (laid_rows a) ∙ length_laid base w.lines) a.follows;
   }
 
-  pub line_works : (v : Word) (k : ℕ) (m : ℤ) → Works us t base w b s → Works us t base (noted t v k m w) (noted_on_bench v k m b) s
-  line_works v k m a = record { agrees = line_agrees v k m a.agrees; holds = line_holds us b.ledger b.rows a.holds; wide = a.wide }
-
   -- a line of the root
   pub root_line_agrees : (v : Word) → Agrees us t base w b s → Agrees us t base (root_noted t v w) (noted_on_bench v 0 (pos 0) b) s
   root_line_agrees v a = line_agrees v 0 (pos 0) a
@@ -123,11 +115,3 @@ pub named_has : (us : Users) (k : ℕ) (d : Option ℕ) → Named us k d → has
 named_has [] k d n = absurd n
 named_has (u ∷ us) k d (inl q) = or_left (eqb u.0 k) (has k (numbers us)) (eq-eqb u.0 k q.0)
 named_has (u ∷ us) k d (inr n) = or_right (eqb u.0 k) (has k (numbers us)) (named_has us k d n)
-
-module _ (us : Users) (t n : ℕ) (bank : List Skill) (lines : List Line) (l : Ledger) (f : Follows us t n bank lines l) where
-  -- the leaves that run are those on a front that has the running skills
-  pub fronted : (front : List ℕ) → ((k : ℕ) (d : Option ℕ) → Named us k d → has k front ≡ runs_in bank k) → Fronted us front l
-  fronted front h = record { is = λ k d m. f.runs k d m ∙ sym (h k d m) }
-
-  pub fronted_named : (front : List ℕ) → ((k : ℕ) (d : Option ℕ) → Named us k d → has k front ≡ runs_in bank k) → Fronted us (named_on us front) l
-  fronted_named front h = fronted (named_on us front) (λ k d m. has_named_on us front k (named_has us k d m) ∙ h k d m)

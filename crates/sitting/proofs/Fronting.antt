@@ -5,7 +5,7 @@ use Rattle.std.proofs.lemmas.Map.Views.{any-filter_same}
 use Rattle.std.proofs.Math.Bool.{and-true}
 use Rattle.rules.specs.Leaves.{Users}
 use Rattle.rules.specs.Sittings.{has, named_on}
-use Rattle.rules.proofs.Naming.{numbers, has_named_on}
+use Rattle.rules.proofs.Naming.{numbers}
 use Rattle.sitting.specs.Agreeing.{Named, Fronted}
 use Rattle.sitting.specs.Desks.{state_of, is_running}
 use Rattle.sitting.specs.Fronts.{running}
@@ -26,9 +26,6 @@ module _ (us : Users) (l : Ledger) where
   -- a ledger whose running leaves are those on a front
   pub running_as : (f : List ℕ) → ((k : ℕ) (d : Option ℕ) → Named us k d → is_running (state_of l k) ≡ has k f) → running us l ≡ named_on us f
   running_as f h = same_named us (λ k. is_running (state_of l k)) (λ k. has k f) h
-
-  pub running_is : (front f : List ℕ) → Fronted us front l → front ≡ named_on us f → running us l ≡ named_on us f
-  running_is front f h e = running_as f (λ k d n. h.is k d n ∙ ap (has k) e ∙ has_named_on us f k (named_has us k d n))
 
   pub running_none : Fronted us [] l → running us l ≡ []
   running_none h = running_as [] (λ k d n. h.is k d n) ∙ none_on us

@@ -1,9 +1,9 @@
 -- Rows of children in the tables, put together and taken apart.
 use Rattle.std.proofs.Common.{◌≡◌, ℕ, zero, suc, ◌+◌, ◌≤◌, Bool, true, false, List, ◌∷◌, ◌++◌, sym, refl, ap, ◌∙◌, arith}
 use Rattle.mission.specs.Trees.{Leaf}
-use Rattle.rules.specs.Live.{Polarity, on_pass, on_fail, goes_on, remembers, counts_on, Kept, pending, ended, Live, live_leaf, live_group, live_par, live_not, live_loop, Kids, no_kids, kid, forgotten}
+use Rattle.rules.specs.Live.{Polarity, on_pass, on_fail, remembers, Kept, pending, ended, Live, live_leaf, live_group, live_par, live_not, live_loop, Kids, no_kids, kid, forgotten}
 use Rattle.rules.specs.Visiting.{behind, size}
-use Rattle.rules.proofs.Shapes.{kind_of, loop_of}
+use Rattle.rules.proofs.Shapes.{kind_of}
 use Rattle.sitting.specs.Cells.{marks, ahead_cell, group_cell, loop_cell}
 use Rattle.sitting.specs.Tables.{ahead_of, count_of}
 use Rattle.sitting.specs.Tidy.{Even, TidyGroup}
@@ -21,21 +21,11 @@ has_node (live_par n ks) = omega arith
 has_node (live_not x) = omega arith
 has_node (live_loop p times n x) = omega arith
 
-pub kind_goes : (p : Polarity) (m : Bool) → goes_on (kind_of p m) ≡ p
-kind_goes on_pass true = refl
-kind_goes on_pass false = refl
-kind_goes on_fail true = refl
-kind_goes on_fail false = refl
-
 pub kind_remembers : (p : Polarity) (m : Bool) → remembers (kind_of p m) ≡ m
 kind_remembers on_pass true = refl
 kind_remembers on_pass false = refl
 kind_remembers on_fail true = refl
 kind_remembers on_fail false = refl
-
-pub loop_counts : (p : Polarity) → counts_on (loop_of p) ≡ p
-loop_counts on_pass = refl
-loop_counts on_fail = refl
 
 -- sizes and nodes
 
@@ -74,10 +64,6 @@ nodes_forgotten no_kids = refl
 nodes_forgotten (kid r x ks) = ap (λ n. nodes x + n) (nodes_forgotten ks)
 
 -- what is remembered
-
-pub marks_onto : (bs ks : Kids) → marks (onto bs ks) ≡ marks bs ++ marks ks
-marks_onto no_kids ks = refl
-marks_onto (kid r x bs) ks = ap (λ (rs : List Kept). r ∷ rs) (marks_onto bs ks)
 
 pub marks_snoc : (bs : Kids) (r : Kept) (x : Live) (rs : List Kept) → marks (snoc bs r x) ++ rs ≡ marks bs ++ (r ∷ rs)
 marks_snoc no_kids r x rs = refl

@@ -1,6 +1,6 @@
 -- A sitting over a live tree of its mission: a visit of the root and a halt of the root, over the tables as by the rules.
-use Rattle.std.proofs.Common.{◌≡◌, ℕ, zero, suc, ◌+◌, ◌<◌, ◌≤◌, Bool, true, false, List, [], ◌∷◌, ◌++◌, length, take, drop, replicate, Ok, sym, refl, ap, ap₂, ◌∙◌, get_or, append_assoc, length-append, subst, arith}
-use Rattle.std.proofs.lemmas.List.{drop_more, take_at, replicate-append-replicate}
+use Rattle.std.proofs.Common.{◌≡◌, ℕ, zero, suc, ◌+◌, ◌<◌, ◌≤◌, Bool, true, false, List, [], ◌∷◌, ◌++◌, length, drop, replicate, Ok, sym, refl, ap, ap₂, ◌∙◌, get_or, append_assoc, length-append, subst, arith}
+use Rattle.std.proofs.lemmas.List.{drop_more, replicate-append-replicate}
 use Rattle.bank.specs.Skills.{Skill}
 use Rattle.mission.specs.Missions.{meaning}
 use Rattle.mission.specs.Trees.{Leaf, Tree, leaf, group, par, neg, again, Trees, nil, cons, width, leaf_node, flatten, flattens}
@@ -238,11 +238,6 @@ module _ (s : Executive) (P : Leaf → Type 0) where
     laid = (laid_from x s.memories 0 N E C (record { kinds = p; ends = q; cells = r }) (omega arith) f).0;
     long = l;
   }
-
-  pub seated_cells : (x : Live) → Seated s P x → take (nodes x) s.memories ≡ cells x
-  seated_cells x h =
-      let e : 0 + nodes x ≡ nodes x = omega arith in
-      ap (take (nodes x)) (cells_from x s.memories 0 h.long h.laid) ∙ take_at (cells x) (drop (0 + nodes x) s.memories) (nodes x) (cells_length x)
 
 -- the sitting with this memory and this ledger
 abbrev pub sat : Executive → List Memory → Ledger → Executive

@@ -1,14 +1,13 @@
 -- Fresh and cleared trees are tidy, and each step of the machine keeps a configuration tidy.
-use Rattle.std.proofs.Common.{◌≡◌, ℕ, zero, suc, ◌*◌, Bool, true, false, ltb, List, [], ◌∷◌, sym, refl, subst}
+use Rattle.std.proofs.Common.{◌≡◌, ℕ, suc, Bool, true, false, ltb, List, [], ◌∷◌, sym, refl}
 use Rattle.mission.specs.Trees.{Tree, leaf, group, par, neg, again, Trees, nil, cons}
 use Rattle.rules.specs.declared.status.Status.{Status}
 use Rattle.rules.specs.declared.status.Status.TheVariants.{Run, Pass, Fail}
 use Rattle.rules.specs.Live.{Polarity, on_pass, on_fail, goes_on, remembers, Kept, pending, ended, Live, live_leaf, live_group, live_par, live_not, live_loop, Kids, no_kids, kid, fresh, fresh_kids, cleared, cleared_kids, forgotten}
-use Rattle.rules.specs.Visiting.{Visit, gives, leaf_visit, moves_on, moved, kept_as, behind, later, group_end, size, passes, fails, verdict, after_par, par_end, count_or_end, loop_step}
-use Rattle.rules.specs.Visiting.{Actions, halt_later, halt_pending, visit}
-use Rattle.sitting.specs.Zipper.{Frame, in_group, in_par, in_not, in_loop, snoc, onto, leading, passed_by, rest, Config, down, look_group, look_par, up, raise, back_in_group, step, steps, nodes}
+use Rattle.rules.specs.Visiting.{Visit, gives, moves_on, moved, kept_as, behind, later, group_end, size, passes, fails, verdict, after_par, par_end, count_or_end, loop_step}
+use Rattle.rules.specs.Visiting.{Actions, halt_later, halt_pending}
+use Rattle.sitting.specs.Zipper.{Frame, in_group, in_par, in_not, in_loop, snoc, onto, leading, passed_by, rest, Config, down, look_group, look_par, up, raise, back_in_group, step}
 use Rattle.sitting.specs.Tidy.{Tidy, AllTidy, Even, TidyGroup, TidyVisit, TidyStack, TidyConfig}
-use Rattle.sitting.proofs.Zipping.{nodes_enough}
 
 -- rows
 
@@ -28,10 +27,6 @@ pub all_snoc : (r : Kept) (ks : Kids) (x : Live) → AllTidy ks → Tidy x → A
 all_snoc r no_kids x h t = (t, tt)
 all_snoc r (kid q y ks) x h t = (h.0, all_snoc r ks x h.1 t)
 
-pub all_onto : (ks ls : Kids) → AllTidy ks → AllTidy ls → AllTidy (onto ks ls)
-all_onto no_kids ls h i = i
-all_onto (kid s x ks) ls h i = (h.0, all_onto ks ls h.1 i)
-
 pub even_forgotten : (ks : Kids) → AllTidy ks → Even pending (forgotten ks)
 even_forgotten no_kids h = tt
 even_forgotten (kid r x ks) h = (refl, h.0, even_forgotten ks h.1)
@@ -47,12 +42,6 @@ pub group_all : (p : Polarity) (m : Bool) (ks : Kids) → TidyGroup p m ks → A
 group_all p m no_kids h = tt
 group_all p m (kid pending x ks) h = (h.0, even_all pending ks h.1)
 group_all p m (kid (ended b) x ks) h = (h.1, group_all p m ks h.2)
-
--- without memory nothing is remembered
-pub group_even : (p : Polarity) (ks : Kids) → TidyGroup p false ks → Even pending ks
-group_even p no_kids h = tt
-group_even p (kid pending x ks) h = (refl, h.0, h.1)
-group_even p (kid (ended b) x ks) h = let e = h.0 in absurd (cc)
 
 pub rest_even : (p : Polarity) (m : Bool) (ks : Kids) → TidyGroup p m ks → Even pending (rest ks)
 rest_even p m no_kids h = tt
@@ -121,12 +110,6 @@ module _ (W : Type 0) where
   raise_tidy : (o : Visit W Live) (K : List Frame) → TidyVisit o → TidyStack K → TidyConfig (raise o K)
   raise_tidy (gives a w f x) K h s = (h, s)
 
-  raised_tidy : (o : Visit W Live) → TidyConfig (raise o []) → TidyVisit o
-  raised_tidy (gives a w f x) h = h.0
-
-  leaf_tidy : (l : _) (r : Status × W) → TidyVisit (leaf_visit l r)
-  leaf_tidy l r = tt
-
   group_end_tidy : (p : Polarity) (m : Bool) (a : Status) (w : W) (f : List ℕ) (ks : Kids) → TidyGroup p m ks → TidyVisit (group_end p m (gives a w f ks))
   group_end_tidy p m Run w f ks h = h
   group_end_tidy p m Pass w f ks h = even_group p m (forgotten ks) (even_forgotten ks (group_all p m ks h))
@@ -179,16 +162,3 @@ module _ (A : Actions) where
   step_tidy (up a w f x (in_par n bs g ks ∷ K)) h = (all_snoc (kept_as a) bs x h.1.0.0 h.0, h.1.0.1, h.1.1)
   step_tidy (up a w f x (in_not ∷ K)) h = (h.0, h.1.1)
   step_tidy (up a w f x (in_loop p times n ∷ K)) h = raise_tidy A.World _ K (loop_step_tidy A.World (moves_on p a) p times n a w f x h.0) h.1.1
-
-  pub steps_tidy : (n : ℕ) (c : Config A.World) → TidyConfig c → TidyConfig (steps A n c)
-  steps_tidy zero c h = h
-  steps_tidy (suc n) c h = steps_tidy n (step A c) (step_tidy c h)
-
-  -- a visit of a tidy tree leaves a tidy one
-  pub visit_tidy : (x : Live) (w : A.World) → Tidy x → TidyVisit (visit A x w)
-  visit_tidy x w h = raised_tidy A.World (visit A x w) (subst (λ (c : Config A.World). TidyConfig c) (nodes_enough A x w) (steps_tidy (4 * nodes x) (down x w []) (h, tt)))
-
-  -- a tidy group is entered at its first pending child
-  pub tidy_entered : (p : Polarity) (m : Bool) (ks : Kids) (w : A.World) (K : List Frame) → Tidy (live_group p m ks) →
-      step A (down (live_group p m ks) w K) ≡ look_group p m (leading ks) (rest ks) w K
-  tidy_entered p m ks w K h = rw (passed_leading p m ks h) refl

@@ -5,7 +5,7 @@ use Rattle.rules.specs.declared.status.Status.TheVariants.{Run}
 use Rattle.rules.specs.Live.{Polarity, Kept, pending, ended, Live, live_leaf, live_group, live_par, live_not, live_loop, Kids, no_kids, kid}
 use Rattle.rules.specs.Visiting.{Visit, gives, leaf_visit, moves_on, moved, kept_as, behind, later, in_front, go_on_or_stop, group_step, group_end, beside, par_step, not_end, loop_end}
 use Rattle.rules.specs.Visiting.{Actions, halt_later, par_decided, visit, visit_group, visit_par}
-use Rattle.sitting.specs.Zipper.{Frame, in_group, in_par, in_not, in_loop, snoc, onto, leading, passed_by, rest, Config, down, look_group, look_par, up, raise, is_end, back_in_group, step, steps, nodes, nodes_in}
+use Rattle.sitting.specs.Zipper.{Frame, in_group, in_par, in_not, in_loop, snoc, onto, passed_by, rest, Config, down, look_group, look_par, up, raise, is_end, back_in_group, step, steps, nodes, nodes_in}
 
 abbrev pub before : {W : Type 0} → Kids → Visit W Kids → Visit W Kids
 before bs (gives a w f ks) = gives a w f (onto bs ks)
@@ -20,11 +20,6 @@ onto_snoc (kid s y bs) r x ks = ap (kid s y) (onto_snoc bs r x ks)
 pub onto_none : (bs : Kids) → onto bs no_kids ≡ bs
 onto_none no_kids = refl
 onto_none (kid s y bs) = ap (kid s y) (onto_none bs)
-
-pub leading_rest : (ks : Kids) → onto (leading ks) (rest ks) ≡ ks
-leading_rest no_kids = refl
-leading_rest (kid pending x ks) = refl
-leading_rest (kid (ended b) x ks) = ap (kid (ended b) x) (leading_rest ks)
 
 before_snoc : {W : Type 0} (bs : Kids) (r : Kept) (x : Live) (o : Visit W Kids) → before (snoc bs r x) o ≡ before bs (in_front r x o)
 before_snoc bs r x (gives a w f ks) = ap (gives a w f) (onto_snoc bs r x ks)

@@ -3,9 +3,8 @@ use Rattle.std.specs.Prelude.{◌≡◌, ℕ, ◌+◌, Bool, length, Option}
 use Rattle.mission.specs.Missions.{meaning}
 use Rattle.rules.specs.Live.{Live}
 use Rattle.rules.specs.Missions.{plan}
-use Rattle.rules.proofs.Fronts.{Quiet}
-use Rattle.rules.proofs.Shapes.{bare}
-use Rattle.rules.proofs.Standing.{Stands}
+use Rattle.rules.specs.Stands.{Stands, Quiet}
+use Rattle.rules.specs.Bare.{bare}
 use Rattle.sitting.specs.Agreeing.{Named, Holds, LeafFits}
 use Rattle.sitting.specs.Desks.{state_of, is_running}
 use Rattle.sitting.specs.Reviving.{live_of}

@@ -8,7 +8,7 @@ use Rattle.rules.specs.Leaves.{World, Users, users, in_tick}
 use Rattle.rules.specs.Live.{Live, cleared}
 use Rattle.rules.specs.Missions.{plan}
 use Rattle.rules.specs.Visiting.{gives, visit, halt}
-use Rattle.rules.proofs.Shapes.{bare}
+use Rattle.rules.specs.Bare.{bare}
 use Rattle.sitting.specs.Agreeing.{Holds, SameSizes, Agrees, Works, LeafFits}
 use Rattle.sitting.specs.Desks.{Bench, bench, Boards}
 use Rattle.sitting.specs.Entering.{entered_in, Rising}

@@ -7,7 +7,7 @@ use Rattle.mission.specs.declared.node.Node.{Node}
 use Rattle.mission.specs.declared.node.Node.TheVariants.{Group, Par, Not, Loop}
 use Rattle.rules.specs.Live.{Live, live_leaf, live_group, live_par, live_not, live_loop, Kids, no_kids, kid}
 use Rattle.rules.specs.Visiting.{size}
-use Rattle.rules.proofs.Shapes.{kind_of, loop_of}
+use Rattle.rules.specs.Bare.{kind_of, loop_of}
 use Rattle.sitting.specs.Cells.{marks, group_cell, results_cell, loop_cell}
 use Rattle.sitting.specs.Tidy.{Tidy}
 use Rattle.sitting.specs.Zipper.{nodes, nodes_in, depth}

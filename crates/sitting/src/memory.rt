@@ -9,7 +9,7 @@ pub(crate) struct Results {
 #[derive(Clone, Copy, PartialEq, Eq, Debug)]
 pub(crate) enum Memory {
     Nothing,
-    // Of an mseq or mfall: how far behind the node the child stands that ran.
+    // Of an mseq or mfall: how many nodes of its children it is past.
     Child(u16),
     // Of a par.
     Results(Results),

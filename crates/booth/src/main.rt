@@ -6,7 +6,7 @@ mod refusals;
 mod verdict;
 
 use crate::command::{Verb, verb_of};
-use crate::refusals::refused_line;
+use crate::refusals::{refused_line, words};
 use crate::verdict::{Accepted, Unjudged, judge};
 use std::io::Write;
 use std::process::ExitCode;
@@ -33,8 +33,7 @@ fn check(rt: &HostRuntime, text: &[u8]) -> anyhow::Result<ExitCode> {
             Ok(ExitCode::SUCCESS)
         }
         Err(Unjudged::Refused(fault)) => {
-            let words = fault.to_string(heap)?;
-            rt.println(refused_line(heap, &fault, words.as_str())?)?;
+            rt.println(refused_line(heap, &fault, words(fault))?)?;
             Ok(ExitCode::FAILURE)
         }
         // Kept: of the two causes this one alone is the program's own error, so it is handed up by itself.

@@ -28,21 +28,29 @@ impl Breach {
     {
         self as u8
     }
-}
 
-// A breach is printed as words that help a writer mend the line.
-impl fmt::Display for Breach {
-    ghost output = { λ b. Some (breach_words b) };
-
-    fn fmt<W: fmt::Write>(&self, f: &mut fmt::Formatter<W>) -> fmt::Result {
-        f.write_str(match self {
+    // Words that help a writer mend the line.
+    // Kept beside Display, which prints them: these always come, and a format may fail.
+    pub fn words(self) -> &'static str
+        ensures { result.now ≡ breach_words self }
+    {
+        match self {
             Breach::Place =>
                 "the node finds no open place, or places stay open after the last node",
             Breach::Level => "the node is below level 16",
             Breach::Twice => "the skill was named on an earlier line",
             Breach::Key => "the key is not below its declared number",
             Breach::Need => "need exceeds kids",
-        })
+        }
+    }
+}
+
+// A breach is printed as its words.
+impl fmt::Display for Breach {
+    ghost output = { λ b. Some (breach_words b) };
+
+    fn fmt<W: fmt::Write>(&self, f: &mut fmt::Formatter<W>) -> fmt::Result {
+        f.write_str(self.words())
     }
 }
 

@@ -24,6 +24,17 @@ impl Flaw {
     {
         self as u8
     }
+
+    // Words that help a writer mend the line.
+    // Kept beside Display, which prints them: these always come, and a format may fail.
+    pub fn words(self) -> &'static str
+        ensures { result.now ≡ flaw_words self }
+    {
+        match self {
+            Flaw::Form => "the line is not of its form, is missing, or follows the last node",
+            Flaw::Range => "a number of the line is outside its range",
+        }
+    }
 }
 
 // A part of an entry out of its range is a number out of its range.
@@ -35,15 +46,12 @@ impl From<EntryFault> for Flaw {
     }
 }
 
-// A flaw is printed as words that help a writer mend the line.
+// A flaw is printed as its words.
 impl fmt::Display for Flaw {
     ghost output = { λ f. Some (flaw_words f) };
 
     fn fmt<W: fmt::Write>(&self, f: &mut fmt::Formatter<W>) -> fmt::Result {
-        f.write_str(match self {
-            Flaw::Form => "the line is not of its form, is missing, or follows the last node",
-            Flaw::Range => "a number of the line is outside its range",
-        })
+        f.write_str(self.words())
     }
 }
 

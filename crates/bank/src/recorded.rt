@@ -25,7 +25,8 @@ impl Recorded {
     pub fn new(width: u8, takes: &[GivenTake]) -> Result<Recorded, BankFault>
         ensures { Makes result (recordable width takes.now) (λ b. (recordable width takes.now ≡ true) × Holds width takes.now (recorded_skills b)) }
     {
-        if width > 64 || !within(width, takes) {
+        // The number first, so that no take is read where they are too many.
+        if width > 64 || takes.len() > 1024 || !within(width, takes) {
             return Err(BankFault::OutOfRange);
         }
         let rows = ArrayVec::try_from(takes).map_err(|_| BankFault::OutOfRange)?;

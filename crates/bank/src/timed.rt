@@ -17,11 +17,12 @@ impl Timed {
     pub fn new(timings: &[Timing]) -> Result<Timed, BankFault>
         ensures { MatchResult result (λ b. (length timings.now ≤ 64) × (timed_skills b ≡ map timing_skill timings.now)) (λ e. (e ≡ OutOfRange) × (64 < length timings.now)) }
     {
+        if timings.len() > 64 {
+            return Err(BankFault::OutOfRange);
+        }
         let mut table = ArrayVec::new();
         for timing in timings {
-            table
-                .try_push(FirstTake::idle(timing.take))
-                .map_err(|_| BankFault::OutOfRange)?;
+            table.push(FirstTake::idle(timing.take));
         }
         Ok(Timed { table })
     }

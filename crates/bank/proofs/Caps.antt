@@ -20,6 +20,14 @@ held_zero m zero k = omega arith
 held_zero m (suc n) zero = omega arith
 held_zero m (suc n) (suc k) = held_zero m n k
 
+-- and one of them written, within the limit
+pub held_set : (m : ℕ) (cs : List ℕ) (i c : ℕ) → ((k : ℕ) → get_or cs k 0 ≤ m) → c ≤ m → (k : ℕ) → get_or (set cs i c) k 0 ≤ m
+held_set m [] i c h le k = h k
+held_set m (x ∷ cs) zero c h le zero = le
+held_set m (x ∷ cs) zero c h le (suc k) = h (suc k)
+held_set m (x ∷ cs) (suc i) c h le zero = h zero
+held_set m (x ∷ cs) (suc i) c h le (suc k) = held_set m cs i c (λ j. h (suc j)) le k
+
 -- the skill below changes
 pub caps_set : (m : ℕ) (cs : List ℕ) (l : List Skill) (k : ℕ) (s : Skill) → capped_skills m cs (set l k s) ≡ set (capped_skills m cs l) k (capped m (get_or cs k 0) s)
 caps_set m cs [] k s = refl

@@ -4,5 +4,7 @@ pub mod CapCalls
 pub mod Halts
 pub mod PairCalls
 pub mod Records
+pub mod Rolls
+pub mod Rows
 pub mod Shortening
 pub mod Slots

@@ -1,5 +1,5 @@
 -- Pairs laid over absent keys: what a key holds, and what a first and a later write leave.
-use Rattle.std.proofs.Common.{◌≡◌, ◌==◌, ℕ, ◌<◌, Bool, List, [], ◌∷◌, ◌++◌, length, get_or, set, Some, None, sym, refl, arith}
+use Rattle.std.proofs.Common.{◌≡◌, ◌≢◌, ◌==◌, ℕ, suc, ◌<◌, Bool, List, [], ◌∷◌, ◌++◌, length, get_or, set, Some, None, sym, refl, arith, eq-eqb, ne_eqb}
 use Rattle.std.specs.List.{find, position, position_or_len}
 use Rattle.std.specs.Option.{option_map}
 use Rattle.std.proofs.lemmas.Grind.{common_steps}
@@ -17,6 +17,15 @@ module _ {X : Type 0} (p : X → Bool) (xs : List X) where
 
   pub not_placed : None ≡ position p xs → position_or_len p xs ≡ length xs
   not_placed e = grind (arith, prefix_len-le-length)
+
+-- the place of a key's pair where a pair stands before others: its own, or one on; theorems that the
+-- proofs below don't need
+module _ {P : Type 0} (key : P → ℕ) (k : ℕ) (p : P) (ps : List P) where
+  pub place_here : key p ≡ k → position (λ q. key q == k) (p ∷ ps) ≡ Some 0
+  place_here e = grind (arith, common_steps, eq-eqb (key p) k e)
+
+  pub place_there : (key p ≢ k) → position (λ q. key q == k) (p ∷ ps) ≡ option_map suc (position (λ q. key q == k) ps)
+  place_there ne = grind (arith, common_steps, ne_eqb (key p) k ne)
 
 module _ {E : Type 0} (size : ℕ) where
   -- a key holds what the first of its pairs holds

@@ -7,6 +7,7 @@ use Rattle.entry.specs.declared.parts.Whole.{Whole}
 use Rattle.entry.specs.declared.parts.Weight.{Weight}
 use Rattle.entry.specs.declared.parts.CountThreshold.{CountThreshold}
 use Rattle.entry.specs.declared.parts.AbilityThreshold.{AbilityThreshold}
+use Rattle.entry.specs.declared.parts.Weighed.{Weighed}
 use Rattle.entry.specs.declared.parts.Ability.{Ability}
 
 pub same_whole : {m : ℕ} (v w : Whole m) → v.value ≡ w.value → v ≡ w
@@ -33,6 +34,11 @@ same_count_threshold s t e = λ i. record { least = same_whole s.least t.least e
 pub same_ability_threshold : (s t : AbilityThreshold) → s.least.value ≡ t.least.value → s.over.value ≡ t.over.value → s ≡ t
 same_ability_threshold s t e f =
     λ i. record { least = same_whole s.least t.least e i; over = same_weight s.over t.over f i }
+
+-- nothing cites this one: weighed marks are told apart as the others are
+pub same_weighed : (s t : Weighed) → s.mark.value ≡ t.mark.value → s.weight.value ≡ t.weight.value → s ≡ t
+same_weighed s t e f =
+    λ i. record { mark = same_whole s.mark t.mark e i; weight = same_weight s.weight t.weight f i }
 
 pub same_ability : (a b : Ability) → a.marks ≡ b.marks → a.weight ≡ b.weight → a ≡ b
 same_ability a b e f =

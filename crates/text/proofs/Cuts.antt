@@ -14,7 +14,7 @@ use Rattle.text.specs.Numeral.{natural, numeral, valued, kept}
 use Rattle.text.specs.Fields.{Rest, onto, field, spaced, free, front, parted, then, cut_or, next, halves, named, word, meant, number, meant_or, number_or, last, one_ended, pair_ended}
 use Rattle.text.proofs.Numerals.{valued_numeral, valued_sound, no_value}
 pub use Rattle.std.proofs.lemmas.Option.{same_Some as some_same}
-pub use Rattle.text.proofs.Options.{never, then_some, mapped_some}
+pub use Rattle.text.proofs.Options.{never, then_some, mapped_some, mapped_none}
 
 -- a text with no b is not cut
 pub parted_none : (b : ℕ) (p : List ℕ) → free b p ≡ true → parted b p ≡ None

@@ -17,3 +17,8 @@ then_some (Some x) f y e = (x, refl, e)
 pub mapped_some : {X Y : Type 0} (f : X → Y) (o : Option X) (y : Y) → option_map f o ≡ Some y → (x : X) × (o ≡ Some x) × (f x ≡ y)
 mapped_some f None y e = never e
 mapped_some f (Some x) y e = (x, refl, same_Some (f x) y e)
+
+-- a changed reading that gives nothing had nothing to change; nothing cites this now
+pub mapped_none : {X Y : Type 0} (f : X → Y) (o : Option X) → ◌≡◌ {A = Option Y} None (option_map f o) → o ≡ None
+mapped_none f None e = refl
+mapped_none f (Some x) e = never e
